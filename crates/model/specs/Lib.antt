@@ -1,0 +1,6 @@
+pub mod Lists
+pub mod Timetable
+pub mod FreeOrder
+pub mod Recurrence
+pub mod GivenOrder
+pub mod Run
