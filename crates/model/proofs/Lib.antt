@@ -17,3 +17,4 @@ pub mod Places
 pub mod Flags
 pub mod Bounds
 pub mod Held
+pub mod Laying

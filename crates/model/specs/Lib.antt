@@ -4,3 +4,4 @@ pub mod FreeOrder
 pub mod Recurrence
 pub mod GivenOrder
 pub mod Run
+pub mod Laying

@@ -1,0 +1,26 @@
+use borrow.Author.Needs.{needs}
+use Rattle.model.proofs.wait_of.Statement.{statement}
+use Rattle.model.proofs.wait_of.Tie as tie
+use Rattle.model.proofs.Laying.{here-parts, stuck-parts, away-parts}
+
+returns : tie.Need-returns
+returns c = (here-parts (c .before .args .job) (c .before .args .away) (c .if1 .taken) .1, search needs)
+
+enum-told : tie.Need-enum-told
+enum-told c = search needs
+
+enum-known-sending : tie.Need-enum-known-sending
+enum-known-sending c = search needs
+
+cast-result : tie.Need-cast-result
+cast-result c = search needs
+
+returns-2 : tie.Need-returns-2
+returns-2 c = (stuck-parts (c .before .before .before .args .job) (c .before .before .before .args .away) (c .before .before .if1 .left) (c .enum-told .given .1) .1, search needs)
+
+returns-3 : tie.Need-returns-3
+returns-3 c = (away-parts (c .before .before .before .before .args .job) (c .before .before .before .before .args .away) _ _ (c .before .before .before .if1 .left) (c .before .sending .given .1) .1, search needs)
+
+pub wait-of-spec : {M : Type 1} → statement M
+wait-of-spec =
+    tie.close (tie.spec returns enum-told enum-known-sending cast-result returns-2 returns-3)
