@@ -17,7 +17,6 @@ use Rattle.model.specs.Recurrence.{row, Cell, empty, cell, pick, shift, 
 use Rattle.model.proofs.Least.{IsLeast}
 use Rattle.model.proofs.Rows.{herePart, Reach, job-count, row-least}
 use Rattle.model.proofs.Workable.{mask-lt}
-use Rattle.model.proofs.Flags.{bits}
 
 heres-le : (xs : List Chosen) → total herePart xs ≤ total (λ (j : Job). j .local) (map (λ (c : Chosen). c .job) xs)
 heres-le [] = omega arith

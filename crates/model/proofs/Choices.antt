@@ -1,4 +1,4 @@
--- A choice of the table and its jobs in away awayOrder: each gives the other, and the busy total.
+-- A choice of the table and its jobs in away order: each gives the other, and the busy total.
 -- Assumes nothing.
 use mathlib.Core.Path.{_≡_, refl, sym, ap, subst, _∙_}
 use mathlib.Core.Bool.{Bool, true, false, cond, not, _||_}
@@ -31,7 +31,7 @@ module _ {A B : Type 0} (g : A → B) where
 pub last-jobs : (cs : List Chosen) → jobs (reverse (awayOrder cs)) ≡ reverse (orderOf (jobs cs))
 last-jobs cs = map-reverse jobOf (awayOrder cs) ∙ ap reverse (order-jobs cs)
 
--- a choice of the jobs in away awayOrder is that of one choice of the table
+-- a choice of the jobs in away order is that of one choice of the table
 pub restore : (js : List Job) (zs : List Chosen) → jobs zs ≡ orderOf js → (cs : List Chosen) × Choice js cs × (awayOrder cs ≡ zs)
 restore [] [] e = ([], record { each = refl; allowed = tt }, refl)
 restore [] (z ∷ zs) e = clash (cc)
@@ -64,7 +64,7 @@ restore (j ∷ js) zs e = step (isEither j) refl zs e (λ ys f. restore js ys f)
 pub chosen-path : (c d : Chosen) → c .job ≡ d .job → c .away ≡ d .away → c ≡ d
 chosen-path c d p q = λ i. record { job = p i; away = q i }
 
--- two choices of one table with the same jobs in away awayOrder are one
+-- two choices of one table with the same jobs in away order are one
 pub order-inj : (cs ds : List Chosen) → jobs cs ≡ jobs ds → All Allowed cs → All Allowed ds → awayOrder cs ≡ awayOrder ds → cs ≡ ds
 order-inj [] [] p a b e = refl
 order-inj [] (d ∷ ds) p a b e = clash (cc)

@@ -1,4 +1,4 @@
--- A choice as flags by table position, and its mask: bit k is the flag at the k-th place in away awayOrder.
+-- A choice as flags by table position, and its mask: bit k is the flag at the k-th place in away order.
 -- Assumes nothing.
 use mathlib.Core.Path.{_≡_, refl, sym, ap, subst, _∙_}
 use mathlib.Core.Bool.{Bool, true, false, cond, not, _||_, false≢true}
@@ -11,16 +11,12 @@ use lib.ListN.{length, getD, set, length-append}
 use lib.Seq.{getD-set-same, getD-set-other, lt-length-set}
 use Rattle.model.specs.declared.Job.{Job}
 use Rattle.model.specs.Lists.{All, Pairwise}
-use Rattle.model.specs.Timetable.{isEither, Chosen, Allowed}
+use Rattle.model.specs.Timetable.{isEither, Chosen, Allowed, Placed}
 use Rattle.model.specs.FreeOrder.{Choice, awayOrder}
 use Rattle.model.specs.Recurrence.{mask, maskOf}
+use Rattle.model.specs.Positions.{noChoice, canGoAt, places, ofDigits, digits, marked, choose}
 use Rattle.model.proofs.Lists.{all-map}
-use Rattle.model.proofs.Places.{noChoice, canGoAt, places, order-places}
-
--- the number whose binary digits are the flags, the lowest first
-abbrev pub num : List Bool → ℕ
-num [] = 0
-num (b ∷ bs) = cond b 1 0 + 2 * num bs
+use Rattle.model.proofs.Places.{order-places}
 
 mask-snoc : (xs : List Chosen) (x : Chosen) → mask (xs ++ (x ∷ [])) ≡ cond (x .away) 1 0 + 2 * mask xs
 mask-snoc [] x = refl
@@ -34,59 +30,42 @@ mask-snoc (y ∷ xs) x = step (y .away) (mask-snoc xs x)
     step true e = omega (arith, more)
     step false e = omega arith
 
-mask-reverse : (xs : List Chosen) → mask (reverse xs) ≡ num (map (λ (c : Chosen). c .away) xs)
+mask-reverse : (xs : List Chosen) → mask (reverse xs) ≡ ofDigits (map (λ (c : Chosen). c .away) xs)
 mask-reverse [] = refl
 mask-reverse (x ∷ xs) = ap mask (reverse-cons x xs) ∙ mask-snoc (reverse xs) x ∙ ap (λ (n : ℕ). cond (x .away) 1 0 + 2 * n) (mask-reverse xs)
 
 -- the mask of a choice, by table positions
-pub mask-places : (js : List Job) (cs : List Chosen) → Choice js cs → maskOf cs ≡ num (map (λ (i : ℕ). (getD cs i noChoice) .away) (places js))
-mask-places js cs c = mask-reverse (awayOrder cs) ∙ ap (λ (l : List Chosen). num (map (λ (x : Chosen). x .away) l)) (order-places js cs c) ∙ ap num (map-map (places js))
+pub mask-places : (js : List Job) (cs : List Chosen) → Choice js cs → maskOf cs ≡ ofDigits (map (λ (i : ℕ). (getD cs i noChoice) .away) (places js))
+mask-places js cs c = mask-reverse (awayOrder cs) ∙ ap (λ (l : List Chosen). ofDigits (map (λ (x : Chosen). x .away) l)) (order-places js cs c) ∙ ap ofDigits (map-map (places js))
   where
     map-map : (is : List ℕ) → map (λ (x : Chosen). x .away) (map (λ (i : ℕ). getD cs i noChoice) is) ≡ map (λ (i : ℕ). (getD cs i noChoice) .away) is
     map-map [] = refl
     map-map (i ∷ is) = ap (λ (l : List Bool). (getD cs i noChoice) .away ∷ l) (map-map is)
 
--- the n lowest binary digits of m
-abbrev pub bits : ℕ → ℕ → List Bool
-bits zero m = []
-bits (suc n) m = eqb (m % 2) 1 ∷ bits n (m / 2)
-
-pub num-bits : (n m : ℕ) → m < 2 ^ n → num (bits n m) ≡ m
-num-bits zero m h = omega arith
-num-bits (suc n) m h = step (eqb (m % 2) 1) refl (num-bits n (m / 2) (omega arith))
+pub of-digits : (n m : ℕ) → m < 2 ^ n → ofDigits (digits n m) ≡ m
+of-digits zero m h = omega arith
+of-digits (suc n) m h = step (eqb (m % 2) 1) refl (of-digits n (m / 2) (omega arith))
   where
-    step : (b : Bool) → eqb (m % 2) 1 ≡ b → num (bits n (m / 2)) ≡ m / 2 → cond b 1 0 + 2 * num (bits n (m / 2)) ≡ m
+    step : (b : Bool) → eqb (m % 2) 1 ≡ b → ofDigits (digits n (m / 2)) ≡ m / 2 → cond b 1 0 + 2 * ofDigits (digits n (m / 2)) ≡ m
     step true e h = omega (arith, eqb-true (m % 2) 1 e)
     step false e h = omega (arith, eqb-false (m % 2) 1 e)
 
--- flags written at places, one after the other
-abbrev pub place : List ℕ → List Bool → List Bool → List Bool
-place [] bs fs = fs
-place (i ∷ is) [] fs = fs
-place (i ∷ is) (b ∷ bs) fs = place is bs (set fs i b)
-
-place-other : (is : List ℕ) (bs fs : List Bool) (i : ℕ) → All (λ (k : ℕ). ¬ (i ≡ k)) is → getD (place is bs fs) i false ≡ getD fs i false
-place-other [] bs fs i h = refl
-place-other (k ∷ is) [] fs i h = refl
-place-other (k ∷ is) (b ∷ bs) fs i h = place-other is bs (set fs k b) i (h .1) ∙ getD-set-other fs k i b false (h .0)
+marked-other : (is : List ℕ) (bs fs : List Bool) (i : ℕ) → All (λ (k : ℕ). ¬ (i ≡ k)) is → getD (marked is bs fs) i false ≡ getD fs i false
+marked-other [] bs fs i h = refl
+marked-other (k ∷ is) [] fs i h = refl
+marked-other (k ∷ is) (b ∷ bs) fs i h = marked-other is bs (set fs k b) i (h .1) ∙ getD-set-other fs k i b false (h .0)
 
 -- distinct places read back what was written
-pub place-read : (is : List ℕ) (bs fs : List Bool) → length is ≡ length bs → Pairwise (λ (i k : ℕ). ¬ (i ≡ k)) is → All (λ (i : ℕ). i < length fs) is
-    → map (λ (i : ℕ). getD (place is bs fs) i false) is ≡ bs
-place-read [] [] fs e d h = refl
-place-read [] (b ∷ bs) fs e d h = absurd (omega arith)
-place-read (i ∷ is) [] fs e d h = absurd (omega arith)
-place-read (i ∷ is) (b ∷ bs) fs e d h =
-    let p : getD (place is bs (set fs i b)) i false ≡ b = place-other is bs (set fs i b) i (d .0) ∙ getD-set-same fs i b false (h .0) in
-    let q : map (λ (k : ℕ). getD (place is bs (set fs i b)) k false) is ≡ bs =
-    place-read is bs (set fs i b) (omega arith) (d .1) (all-map (λ (k : ℕ) (l : k < length fs). lt-length-set fs i b l) is (h .1)) in
+pub marked-read : (is : List ℕ) (bs fs : List Bool) → length is ≡ length bs → Pairwise (λ (i k : ℕ). ¬ (i ≡ k)) is → All (λ (i : ℕ). i < length fs) is
+    → map (λ (i : ℕ). getD (marked is bs fs) i false) is ≡ bs
+marked-read [] [] fs e d h = refl
+marked-read [] (b ∷ bs) fs e d h = absurd (omega arith)
+marked-read (i ∷ is) [] fs e d h = absurd (omega arith)
+marked-read (i ∷ is) (b ∷ bs) fs e d h =
+    let p : getD (marked is bs (set fs i b)) i false ≡ b = marked-other is bs (set fs i b) i (d .0) ∙ getD-set-same fs i b false (h .0) in
+    let q : map (λ (k : ℕ). getD (marked is bs (set fs i b)) k false) is ≡ bs =
+    marked-read is bs (set fs i b) (omega arith) (d .1) (all-map (λ (k : ℕ) (l : k < length fs). lt-length-set fs i b l) is (h .1)) in
     cc
-
--- the jobs of a table with flags by position
-abbrev pub choose : List Job → List Bool → List Chosen
-choose [] fs = []
-choose (j ∷ js) [] = record { job = j; away = false } ∷ choose js []
-choose (j ∷ js) (f ∷ fs) = record { job = j; away = f } ∷ choose js fs
 
 choose-jobs : (js : List Job) (fs : List Bool) → map (λ (c : Chosen). c .job) (choose js fs) ≡ js
 choose-jobs [] fs = refl
@@ -128,8 +107,8 @@ map-same f g h (i ∷ is) = let p : f i ≡ g i = h i in let q : map f is ≡ ma
 
 -- the choice whose flags along the places are the mask's digits has that mask
 pub choose-mask : (js : List Job) (fs : List Bool) (m : ℕ) → ((i : ℕ) → getD fs i false ≡ true → T (canGoAt js i)) → length fs ≤ length js
-    → map (λ (i : ℕ). getD fs i false) (places js) ≡ bits (length (places js)) m → m < 2 ^ length (places js) → maskOf (choose js fs) ≡ m
+    → map (λ (i : ℕ). getD fs i false) (places js) ≡ digits (length (places js)) m → m < 2 ^ length (places js) → maskOf (choose js fs) ≡ m
 choose-mask js fs m a l e h =
     mask-places js (choose js fs) (choose-choice js fs a)
-    ∙ ap num (map-same (λ (i : ℕ). (getD (choose js fs) i noChoice) .away) (λ (i : ℕ). getD fs i false) (λ i. choose-away js fs i l) (places js) ∙ e)
-    ∙ num-bits (length (places js)) m h
+    ∙ ap ofDigits (map-same (λ (i : ℕ). (getD (choose js fs) i noChoice) .away) (λ (i : ℕ). getD fs i false) (λ i. choose-away js fs i l) (places js) ∙ e)
+    ∙ of-digits (length (places js)) m h

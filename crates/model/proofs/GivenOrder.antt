@@ -1,4 +1,4 @@
--- Algorithm 1 finds a plan exactly when some timetable in table awayOrder meets D, and then the least busy one, which keeps jobs here at equal totals.
+-- Algorithm 1 finds a plan exactly when some timetable in table order meets D, and then the least busy one, which keeps jobs here at equal totals.
 -- Assumes nothing.
 use mathlib.Core.Path.{_≡_, refl, sym, ap, subst, _∙_}
 use mathlib.Core.Logic.{_↔_}
@@ -154,7 +154,7 @@ given-sound D t (j ∷ js) cs e = first (decide D t j) refl e (λ u ds f. given-
     first none p e ih = clash (cc)
     first (some c) p e ih = second c p (given D (t + span c) js) refl e ih
 
--- Timetables in table awayOrder are choices that fit back to back.
+-- Timetables in table order are choices that fit back to back.
 
 inorder-fits : (D t : ℕ) (ps : List Placed) → All (λ (p : Placed). t ≤ p .start) ps → Pairwise (λ (p q : Placed). spanEnd p ≤ q .start) ps → Meets D ps → Fits D t (map what ps)
 inorder-fits D t [] a o m = tt

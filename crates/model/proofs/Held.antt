@@ -10,7 +10,6 @@ use lib.Dec.{leb, ltb, eqb}
 use Rattle.model.specs.declared.Job.{Job}
 use Rattle.model.specs.Timetable.{setupTime, returnTime}
 use Rattle.model.specs.Recurrence.{Cell, empty, cell, pick, shift, next, Holds}
-use Rattle.model.proofs.Flags.{bits}
 use Rattle.model.proofs.Bounds.{lower, next-lower}
 
 -- the lesser of two columns, the first where they are equal

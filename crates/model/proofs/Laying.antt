@@ -1,16 +1,14 @@
 -- One job more behind others that are laid back to back: the code's count goes on as the definitions do.
 -- Assumes nothing.
-use mathlib.Core.Path.{_≡_, ap, _∙_}
+use mathlib.Core.Path.{_≡_}
 use mathlib.Core.Bool.{Bool, true, false, not}
 use mathlib.Core.List.{List, [], _∷_, _++_}
 use Prim.Native.Nat.{ℕ, _+_, _≤_, _<_, max}
 use native.Mathlib.Omega.{arith}
-use native.Mathlib.Nat.{add-assoc}
 use borrow.Author.Tests.{not-true, not-false}
 use Rattle.model.specs.declared.Sending.the-variants.{HereOnly, Either}
 use Rattle.model.specs.declared.Job.{Job}
 use Rattle.model.specs.declared.Laid.{Laid}
-use Rattle.model.specs.Lists.{total}
 use Rattle.model.specs.Timetable.{Chosen, span, wait}
 use Rattle.model.specs.FreeOrder.{busy, lastFrom}
 use Rattle.model.specs.Laying.{chosen, laidOf, laidWith}

@@ -1,5 +1,5 @@
 -- The planner's rows: for each setup total t that is reached exactly, the least (here total, mask) over the choices of the either jobs that can still meet D.
--- The jobs stand from the last in away awayOrder to the first, so a row of one job more has that job in front, and its bit is the highest.
+-- The jobs stand from the last in away order to the first, so a row of one job more has that job in front, and its bit is the highest.
 -- Assumes nothing.
 use mathlib.Core.Path.{_≡_, refl, sym, ap, _∙_}
 use mathlib.Core.Logic.{_⊎_, inl, inr}

@@ -28,7 +28,7 @@ jobs-what (p ∷ ps) = ap (λ (l : List Job). p .what .job ∷ l) (jobs-what ps)
 
 -- From a timetable to a workable choice.
 
--- p before q in the plan: apart, and p spanEnd early enough for q's wait
+-- p before q in the plan: apart, and p ends early enough for q's wait
 abbrev Before : ℕ → Placed → Placed → Type 0
 Before D p q = Apart q p × (spanEnd p + wait (q .what) ≤ D)
 

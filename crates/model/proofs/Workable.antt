@@ -1,4 +1,4 @@
--- Workable, told by the jobs in away awayOrder: the away ones meet D, and the busy total is at most D. And the tie rule is the awayOrder of the masks.
+-- Workable, told by the jobs in away order: the away ones meet D, and the busy total is at most D. And the tie rule is the order of the masks.
 -- Assumes nothing.
 use mathlib.Core.Path.{_≡_, refl, sym, ap, subst, _∙_}
 use mathlib.Core.Bool.{Bool, true, false, cond, not}
@@ -129,7 +129,7 @@ module _ (D : ℕ) where
         (here-fits (0 + total span (filter isAway (awayOrder cs))) (filter here cs) (all-passed here cs)
         (omega (arith, plan-sum, setups-away (awayOrder cs), total-perm setupPart (Permᴰ·reverse (awayOrder cs)))))
 
--- The tie rule is the awayOrder of the masks.
+-- The tie rule is the order of the masks.
 
 abbrev flags : List Chosen → List Bool
 flags xs = map isAway xs

@@ -2,7 +2,7 @@
 -- Assumes nothing.
 use mathlib.Core.Bool.{Bool}
 use mathlib.Core.List.{List}
-use Prim.Native.Nat.{ℕ, _+_, max}
+use Prim.Native.Nat.{_+_, max}
 use Rattle.model.specs.declared.Job.{Job}
 use Rattle.model.specs.declared.Laid.{Laid}
 use Rattle.model.specs.Timetable.{Chosen, span, wait}

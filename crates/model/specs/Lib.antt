@@ -5,3 +5,4 @@ pub mod Recurrence
 pub mod GivenOrder
 pub mod Run
 pub mod Laying
+pub mod Positions
