@@ -1,0 +1,31 @@
+-- `table::here_job` meets its contract, by what the test of the local time says. Assumes nothing.
+use borrow.Author.Tests.{le-leb, lt-leb}
+use borrow.Author.Needs.{needs}
+use Rattle.table.proofs.here_job.Statement.{statement}
+use Rattle.table.proofs.here_job.Tie as tie
+
+add-word-at : tie.Need-add-word-at
+add-word-at c = search needs
+
+word-at-requires : tie.Need-word-at-requires
+word-at-requires c κs = search needs
+
+add-t7 : tie.Need-add-t7
+add-t7 c = search needs
+
+shared-slice-read-t9 : tie.Need-shared-slice-read-t9
+shared-slice-read-t9 c = search needs
+
+add-t12 : tie.Need-add-t12
+add-t12 c = search needs
+
+returns : tie.Need-returns
+returns c = simp (← c .before .before .word-at .ensures, le-leb _ _ (c .before .if1 .taken))
+
+returns-2 : tie.Need-returns-2
+returns-2 c = simp (← c .before .word-at .ensures, lt-leb _ _ (c .if1 .left))
+
+pub here-job-spec : {M : Type 1} → statement M
+here-job-spec =
+    tie.close
+    (tie.spec add-word-at word-at-requires add-t7 shared-slice-read-t9 add-t12 returns returns-2)

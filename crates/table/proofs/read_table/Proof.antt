@@ -1,0 +1,41 @@
+-- `table::read_table` meets its contract: the frame record leads to the jobs or to its refusal. Assumes nothing.
+use mathlib.Core.Path.{_∙_}
+use borrow.Author.Needs.{needs}
+use Rattle.table.specs.Tables.{readTable}
+use Rattle.table.proofs.read_table.Statement.{statement}
+use Rattle.table.proofs.read_table.Tie as tie
+
+frame-at-requires : tie.Need-frame-at-requires
+frame-at-requires c κs = search needs
+
+enum-known-d : tie.Need-enum-known-d
+enum-known-d c = search needs
+
+jobs-from-requires : tie.Need-jobs-from-requires
+jobs-from-requires c κs = search needs
+
+enum-known-f : tie.Need-enum-known-f
+enum-known-f c = search needs
+
+table-refused-requires : tie.Need-table-refused-requires
+table-refused-requires c κs = search needs
+
+returns : tie.Need-returns
+unfolding readTable
+returns c = c .jobs-from .ensures ∙ simp (← c .before .before .before .before .frame-at .ensures, c .before .before .d .given .1)
+
+returns-2 : tie.Need-returns-2
+unfolding readTable
+returns-2 c = c .table-refused .ensures ∙ simp (← c .before .before .before .before .frame-at .ensures, c .before .before .f .given .1)
+
+pub read-table-spec : {M : Type 1} → statement M
+read-table-spec =
+    tie.close
+    (tie.spec
+    frame-at-requires
+    enum-known-d
+    jobs-from-requires
+    enum-known-f
+    table-refused-requires
+    returns
+    returns-2)

@@ -1,0 +1,36 @@
+-- Document 01, 'Refusal numbers': what each refusal says to the caller, its number and its values.
+-- Assumes nothing.
+use Prim.Native.Nat.{ℕ}
+use mathlib.Core.List.{List, [], _∷_}
+use Rattle.table.specs.declared.refusal.Place.{Place}
+use Rattle.table.specs.declared.refusal.Refusal.{Refusal}
+use Rattle.table.specs.declared.refusal.Refusal.the-variants.{Short, Kind, Range, Many, Twice, After, None, Stranger, Kept, Left, Late, Phase, Number, Clock, Who, Value, Early, Room}
+
+abbrev pub place : ℕ → Place
+place n = record { at = n }
+
+-- "1 to 6 return number and place, the rest the number."
+abbrev pub refusalSays : Refusal → List ℕ
+refusalSays (Short p) = 1 ∷ p .at ∷ []
+refusalSays (Kind p) = 2 ∷ p .at ∷ []
+refusalSays (Range p) = 3 ∷ p .at ∷ []
+refusalSays (Many p) = 4 ∷ p .at ∷ []
+refusalSays (Twice p) = 5 ∷ p .at ∷ []
+refusalSays (After p) = 6 ∷ p .at ∷ []
+refusalSays None = 7 ∷ []
+refusalSays Stranger = 8 ∷ []
+refusalSays Kept = 9 ∷ []
+refusalSays Left = 10 ∷ []
+refusalSays Late = 11 ∷ []
+refusalSays Phase = 12 ∷ []
+refusalSays Number = 13 ∷ []
+refusalSays Clock = 14 ∷ []
+refusalSays Who = 15 ∷ []
+refusalSays Value = 16 ∷ []
+refusalSays Early = 17 ∷ []
+refusalSays Room = 18 ∷ []
+
+-- What bytes or a call come to: accepted with what they mean, or refused.
+pub data Outcome (A : Type 0) : Type 0 where
+  accepted : A → Outcome A
+  refused : Refusal → Outcome A

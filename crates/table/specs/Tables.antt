@@ -1,0 +1,143 @@
+-- Document 01, 'Bytes': "A table is one 0x10 first, 0 to 32 jobs with distinct ids, one 0x1F, nothing after."
+-- `readTable` says what a byte string means as a table, or which refusal it gets. Assumes nothing.
+use Prim.Native.Nat.{ℕ, zero, suc, _+_, _-_, _%_, _/_, _≤_}
+use mathlib.Core.Path.{_≡_}
+use mathlib.Core.Bool.{Bool, false, cond, _&&_, _||_}
+use mathlib.Core.List.{List, [], _∷_, _++_}
+use lib.ListN.{length, getD, replicate}
+use lib.Dec.{ltb, leb, eqb}
+use Rattle.model.specs.declared.Sending.{Sending}
+use Rattle.model.specs.declared.Sending.the-variants.{HereOnly, Either}
+use Rattle.model.specs.declared.Job.{Job}
+use Rattle.model.specs.Positions.{noJob}
+use Rattle.model.specs.Lists.{All, Pairwise}
+use Rattle.model.specs.Timetable.{setupTime, returnTime}
+use Rattle.table.specs.declared.refusal.Refusal.the-variants.{Range, Many, Twice, After}
+use Rattle.table.specs.declared.kind.RowKind.{RowKind}
+use Rattle.table.specs.declared.kind.RowKind.the-variants.{HereRow, EitherRow, EndRow}
+use Rattle.table.specs.declared.Table.{Table}
+use Rattle.table.specs.declared.FrameRead.{FrameRead}
+use Rattle.table.specs.declared.FrameRead.the-variants.{Deadline, FrameRefused}
+use Rattle.table.specs.declared.JobRead.{JobRead}
+use Rattle.table.specs.declared.JobRead.the-variants.{JobIs, JobsEnd, JobRefused}
+use Rattle.table.specs.declared.TableVerdict.the-variants.{Whole, Refused}
+use Rattle.table.specs.declared.TableRead.{TableRead}
+use Rattle.table.specs.Limits.{mostJobs, largestTime}
+use Rattle.table.specs.Refusals.{place, Outcome, accepted, refused}
+use Rattle.table.specs.Records.{wordAt, frameOnly, rowOnly, judged}
+
+-- What a table means: a deadline and its jobs.
+pub record JobTable : Type 0 where
+  pub deadline : ℕ
+  pub jobs : List Job
+
+-- "RANGE: a time above 4,000, or D = 0"
+abbrev pub timeOk : ℕ → Bool
+timeOk t = leb t largestTime
+
+-- The first record: D.
+abbrev pub deadlineAt : List ℕ → FrameRead
+deadlineAt s = cond (ltb 0 (wordAt s 1) && timeOk (wordAt s 1)) (Deadline (wordAt s 1)) (FrameRefused (Range (place 0)))
+
+unfoldable pub frameAt : List ℕ → FrameRead
+frameAt s = judged FrameRefused (λ (u : Unit {0}). deadlineAt s) frameOnly s 0
+
+-- The bodies of the two kinds of job, once they are whole: "here-only: id, C", "either: id, C, S, I".
+abbrev pub hereJob : List ℕ → ℕ → JobRead
+hereJob s at =
+    cond (timeOk (wordAt s (at + 2)))
+    (JobIs (record { id = getD s (at + 1) 0; local = wordAt s (at + 2); sending = HereOnly }) (place (at + 4)))
+    (JobRefused (Range (place at)))
+
+abbrev pub eitherJob : List ℕ → ℕ → JobRead
+eitherJob s at =
+    cond (timeOk (wordAt s (at + 2)) && (timeOk (wordAt s (at + 4)) && timeOk (wordAt s (at + 6))))
+    (JobIs (record { id = getD s (at + 1) 0; local = wordAt s (at + 2); sending = Either (wordAt s (at + 4)) (wordAt s (at + 6)) }) (place (at + 8)))
+    (JobRefused (Range (place at)))
+
+-- "33rd job MANY; RANGE", where `count` jobs stand before
+abbrev pub rowBody : List ℕ → ℕ → ℕ → RowKind → JobRead
+rowBody s at count HereRow = cond (ltb count mostJobs) (hereJob s at) (JobRefused (Many (place at)))
+rowBody s at count EitherRow = cond (ltb count mostJobs) (eitherJob s at) (JobRefused (Many (place at)))
+rowBody s at count EndRow = JobsEnd (place (at + 1))
+
+unfoldable pub jobAt : List ℕ → ℕ → ℕ → JobRead
+jobAt s at count = judged JobRefused (rowBody s at count) rowOnly s at
+
+-- "TWICE: id used before in the same file"
+unfoldable pub hasId : List Job → ℕ → Bool
+hasId [] id = false
+hasId (j ∷ js) id = eqb (j .id) id || hasId js id
+
+-- "After the end record, AFTER."
+unfoldable pub ended : List ℕ → ℕ → List Job → ℕ → Outcome JobTable
+ended s D js at = cond (leb (length s) at) (accepted (record { deadline = D; jobs = js })) (refused (After (place at)))
+
+-- What the record at `at` leads to, with the jobs before it; `on` reads the records after it.
+abbrev pub afterJob : (List Job → ℕ → Outcome JobTable) → List ℕ → ℕ → List Job → ℕ → JobRead → Outcome JobTable
+afterJob on s D before at (JobIs j p) = cond (hasId before (j .id)) (refused (Twice (place at))) (on (before ++ (j ∷ [])) (p .at))
+afterJob on s D before at (JobsEnd p) = ended s D before (p .at)
+afterJob on s D before at (JobRefused f) = refused f
+
+-- "Records are judged in file order": those from `at` on, of which `left` may still come, 32 jobs and the end.
+-- (A 33rd job is refused by `rowBody`, so `left` is never 0 before the end.)
+unfoldable pub jobsFrom : ℕ → List ℕ → ℕ → List Job → ℕ → Outcome JobTable
+jobsFrom zero s D before at = refused (Many (place at))
+jobsFrom (suc left) s D before at = afterJob (jobsFrom left s D) s D before at (jobAt s at (length before))
+
+abbrev pub afterFrame : List ℕ → FrameRead → Outcome JobTable
+afterFrame s (Deadline D) = jobsFrom (suc mostJobs) s D [] 3
+afterFrame s (FrameRefused f) = refused f
+
+unfoldable pub readTable : List ℕ → Outcome JobTable
+readTable s = afterFrame s (frameAt s)
+
+-- What every accepted table is (proofs/Accepted.antt).
+
+pub record TimesOk (j : Job) : Type 0 where
+  pub local : j .local ≤ largestTime
+  pub setup : setupTime j ≤ largestTime
+  pub back : returnTime j ≤ largestTime
+
+pub record GoodTable (t : JobTable) : Type 0 where
+  pub few : length (t .jobs) ≤ mostJobs
+  pub distinct : Pairwise (λ (i j : Job). ¬ (i .id ≡ j .id)) (t .jobs)
+  pub times : All TimesOk (t .jobs)
+  pub low : 1 ≤ t .deadline
+  pub high : t .deadline ≤ largestTime
+
+-- A table as the code holds it: the entries that no job has hold `noJob`.
+
+abbrev pub tableOf : ℕ → List Job → Table
+tableOf D js = record { deadline = D; count = length js; jobs = js ++ replicate (mostJobs - length js) noJob }
+
+abbrev pub emptyTable : Table
+emptyTable = tableOf 0 []
+
+-- what `read_table` answers: the verdict, and the table, which is the empty one with a refusal
+abbrev pub tableRead : Outcome JobTable → TableRead
+tableRead (accepted t) = record { verdict = Whole; table = tableOf (t .deadline) (t .jobs) }
+tableRead (refused f) = record { verdict = Refused f; table = emptyTable }
+
+-- what `ended_at` answers, whatever the table that it is given: `ended`, told of the table as the code holds it
+unfoldable pub endedWith : List ℕ → Table → ℕ → TableRead
+endedWith s t at = cond (leb (length s) at) (record { verdict = Whole; table = t }) (tableRead (refused (After (place at))))
+
+-- The bytes of a table: the one byte string that reads as it.
+
+abbrev pub wordBytes : ℕ → List ℕ
+wordBytes n = n % 256 ∷ n / 256 ∷ []
+
+abbrev pub sendingBytes : ℕ → ℕ → Sending → List ℕ
+sendingBytes id C HereOnly = 0x11 ∷ id ∷ wordBytes C
+sendingBytes id C (Either S I) = 0x12 ∷ id ∷ (wordBytes C ++ (wordBytes S ++ wordBytes I))
+
+abbrev pub jobBytes : Job → List ℕ
+jobBytes j = sendingBytes (j .id) (j .local) (j .sending)
+
+unfoldable pub jobsBytes : List Job → List ℕ
+jobsBytes [] = 0x1F ∷ []
+jobsBytes (j ∷ js) = jobBytes j ++ jobsBytes js
+
+unfoldable pub tableBytes : JobTable → List ℕ
+tableBytes t = 0x10 ∷ (wordBytes (t .deadline) ++ jobsBytes (t .jobs))

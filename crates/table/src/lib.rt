@@ -1,0 +1,275 @@
+// A job table: its numbers, its records as bytes, and its reader. Reads any bytes, and refuses by number and place.
+pub mod refusal; // refusal.rt: the eighteen refusals and their places
+pub mod kind; // kind.rt: what a kind byte means
+
+use kind::Meaning;
+use kind::RowKind;
+use model::Job;
+use model::Sending;
+use refusal::Place;
+use refusal::Refusal;
+ghost use mathlib.Core.Path.{_≡_};
+ghost use mathlib.Core.List.{[]};
+ghost use Prim.Native.Nat.{suc, _+_, _<_, _≤_};
+ghost use lib.ListN.{length};
+ghost use Rattle.table.specs.Limits.{mostJobs, largestTime, longestTable, longestPlan};
+ghost use Rattle.table.specs.Refusals.{refused};
+ghost use Rattle.table.specs.Records.{wordAt};
+ghost use Rattle.table.specs.Tables.{frameAt, hereJob, eitherJob, jobAt, jobsFrom, readTable, emptyTable, tableRead, endedWith};
+
+pub struct Table {
+    pub deadline: u16,
+    pub count: usize,
+    pub jobs: [Job; Table::MOST_JOBS],
+}
+
+impl Table {
+    pub const MOST_JOBS: usize = 32;
+
+    pub const LARGEST_TIME: u16 = 4000;
+
+    pub const LONGEST_TABLE: usize = 260;
+
+    pub const LONGEST_PLAN: usize = 65;
+
+    // The table with no jobs.
+    pub fn empty() -> Table
+        ensures { λ r. ⌜ r ≡ emptyTable ⌝ }
+    {
+        let none = Job {
+            id: 0,
+            local: 0,
+            sending: Sending::HereOnly,
+        };
+        let jobs = [none; Table::MOST_JOBS];
+        Table {
+            deadline: 0,
+            count: 0,
+            jobs,
+        }
+    }
+
+    // The next four tie the constants to their names in specs/Limits.antt.
+    pub fn most_jobs() -> usize
+        ensures { λ r. ⌜ r ≡ mostJobs ⌝ }
+    {
+        Table::MOST_JOBS
+    }
+
+    pub fn largest_time() -> u16
+        ensures { λ r. ⌜ r ≡ largestTime ⌝ }
+    {
+        Table::LARGEST_TIME
+    }
+
+    pub fn longest_table() -> usize
+        ensures { λ r. ⌜ r ≡ longestTable ⌝ }
+    {
+        Table::LONGEST_TABLE
+    }
+
+    pub fn longest_plan() -> usize
+        ensures { λ r. ⌜ r ≡ longestPlan ⌝ }
+    {
+        Table::LONGEST_PLAN
+    }
+}
+
+pub enum FrameRead {
+    Deadline(u16),
+    FrameRefused(Refusal),
+}
+
+// A job with the place of the record after it; the end record with the place after it; or a refusal.
+pub enum JobRead {
+    JobIs(Job, Place),
+    JobsEnd(Place),
+    JobRefused(Refusal),
+}
+
+pub enum TableVerdict {
+    Whole,
+    Refused(Refusal),
+}
+
+// An enum does not hold an array, so the table stands beside the verdict: the empty one with a refusal.
+pub struct TableRead {
+    pub verdict: TableVerdict,
+    pub table: Table,
+}
+
+fn wide(b: u8) -> u16
+    ensures { λ r. ⌜ r ≡ b ⌝ }
+{
+    b as u16
+}
+
+fn word_at(s: &[u8], at: usize) -> u16
+    requires { ⌜ at + 1 < length (now s) ⌝ }
+    ensures { λ r. ⌜ r ≡ wordAt (now (s .entry)) at ⌝ }
+{
+    wide(s[at]) + 256 * wide(s[at + 1])
+}
+
+fn frame_at(s: &[u8]) -> FrameRead
+    ensures { λ r. ⌜ r ≡ frameAt (now (s .entry)) ⌝ }
+{
+    if s.len() == 0 {
+        return FrameRead::FrameRefused(Refusal::Short(Place { at: 0 }));
+    }
+    let form = kind::form_of(s[0]);
+    let meaning = form.meaning;
+    let body = form.body;
+    let Meaning::Frame = meaning else {
+        return FrameRead::FrameRefused(Refusal::Kind(Place { at: 0 }));
+    };
+    if s.len() - 1 < body {
+        return FrameRead::FrameRefused(Refusal::Short(Place { at: 0 }));
+    }
+    let d = word_at(s, 1);
+    if d == 0 {
+        return FrameRead::FrameRefused(Refusal::Range(Place { at: 0 }));
+    }
+    if Table::LARGEST_TIME < d {
+        return FrameRead::FrameRefused(Refusal::Range(Place { at: 0 }));
+    }
+    FrameRead::Deadline(d)
+}
+
+fn here_job(s: &[u8], at: usize) -> JobRead
+    requires { ⌜ at + 4 ≤ length (now s) ⌝ }
+    ensures { λ r. ⌜ r ≡ hereJob (now (s .entry)) at ⌝ }
+{
+    let local = word_at(s, at + 2);
+    if local <= Table::LARGEST_TIME {
+        JobRead::JobIs(
+            Job {
+                id: s[at + 1],
+                local,
+                sending: Sending::HereOnly,
+            },
+            Place { at: at + 4 },
+        )
+    } else {
+        JobRead::JobRefused(Refusal::Range(Place { at }))
+    }
+}
+
+fn either_job(s: &[u8], at: usize) -> JobRead
+    requires { ⌜ at + 8 ≤ length (now s) ⌝ }
+    ensures { λ r. ⌜ r ≡ eitherJob (now (s .entry)) at ⌝ }
+{
+    let local = word_at(s, at + 2);
+    let setup = word_at(s, at + 4);
+    let back = word_at(s, at + 6);
+    if Table::LARGEST_TIME < local {
+        return JobRead::JobRefused(Refusal::Range(Place { at }));
+    }
+    if Table::LARGEST_TIME < setup {
+        return JobRead::JobRefused(Refusal::Range(Place { at }));
+    }
+    if Table::LARGEST_TIME < back {
+        return JobRead::JobRefused(Refusal::Range(Place { at }));
+    }
+    JobRead::JobIs(
+        Job {
+            id: s[at + 1],
+            local,
+            sending: Sending::Either { setup, back },
+        },
+        Place { at: at + 8 },
+    )
+}
+
+// The record at a place after the first, where `count` jobs stand before it.
+fn job_at(s: &[u8], at: usize, count: usize) -> JobRead
+    ensures { λ r. ⌜ r ≡ jobAt (now (s .entry)) at count ⌝ }
+{
+    if s.len() <= at {
+        return JobRead::JobRefused(Refusal::Short(Place { at }));
+    }
+    let form = kind::form_of(s[at]);
+    let meaning = form.meaning;
+    let body = form.body;
+    let Meaning::Row(row) = meaning else {
+        return JobRead::JobRefused(Refusal::Kind(Place { at }));
+    };
+    if s.len() - (at + 1) < body {
+        return JobRead::JobRefused(Refusal::Short(Place { at }));
+    }
+    match row {
+        RowKind::EndRow => JobRead::JobsEnd(Place { at: at + 1 }),
+        RowKind::HereRow => {
+            if Table::MOST_JOBS <= count {
+                return JobRead::JobRefused(Refusal::Many(Place { at }));
+            }
+            here_job(s, at)
+        }
+        RowKind::EitherRow => {
+            if Table::MOST_JOBS <= count {
+                return JobRead::JobRefused(Refusal::Many(Place { at }));
+            }
+            either_job(s, at)
+        }
+    }
+}
+
+fn table_refused(f: Refusal) -> TableRead
+    ensures { λ r. ⌜ r ≡ tableRead (refused f) ⌝ }
+{
+    let table = Table::empty();
+    TableRead {
+        verdict: TableVerdict::Refused(f),
+        table,
+    }
+}
+
+// Nothing may stand after the end record.
+fn ended_at(s: &[u8], table: Table, at: usize) -> TableRead
+    ensures { λ r. ⌜ r ≡ endedWith (now (s .entry)) table at ⌝ }
+{
+    if s.len() <= at {
+        TableRead {
+            verdict: TableVerdict::Whole,
+            table,
+        }
+    } else {
+        table_refused(Refusal::After(Place { at }))
+    }
+}
+
+// The records after the first; `seen` tells the ids that stand before.
+fn jobs_from(s: &[u8], deadline: u16) -> TableRead
+    ensures { λ r. ⌜ r ≡ tableRead (jobsFrom (suc mostJobs) (now (s .entry)) deadline [] 3) ⌝ }
+{
+    let mut t = Table::empty();
+    t.deadline = deadline;
+    let mut seen = [false; 256];
+    let mut at = 3;
+    loop {
+        match job_at(s, at, t.count) {
+            JobRead::JobIs(j, p) => {
+                let id = j.id as usize;
+                if seen[id] {
+                    return table_refused(Refusal::Twice(Place { at }));
+                }
+                seen[id] = true;
+                let n = t.count;
+                t.jobs[n] = j;
+                t.count = n + 1;
+                at = p.at;
+            }
+            JobRead::JobsEnd(p) => return ended_at(s, t, p.at),
+            JobRead::JobRefused(f) => return table_refused(f),
+        }
+    }
+}
+
+pub fn read_table(s: &[u8]) -> TableRead
+    ensures { λ r. ⌜ r ≡ tableRead (readTable (now (s .entry))) ⌝ }
+{
+    match frame_at(s) {
+        FrameRead::Deadline(d) => jobs_from(s, d),
+        FrameRead::FrameRefused(f) => table_refused(f),
+    }
+}
