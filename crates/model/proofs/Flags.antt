@@ -16,7 +16,7 @@ use Rattle.model.specs.FreeOrder.{Choice, awayOrder}
 use Rattle.model.specs.Recurrence.{mask, maskOf}
 use Rattle.model.specs.Positions.{noChoice, canGoAt, places, ofDigits, digits, marked, choose}
 use Rattle.model.proofs.Lists.{all-map}
-use Rattle.model.proofs.Places.{order-places}
+use Rattle.model.proofs.Places.{order-places, places-below}
 
 mask-snoc : (xs : List Chosen) (x : Chosen) → mask (xs ++ (x ∷ [])) ≡ cond (x .away) 1 0 + 2 * mask xs
 mask-snoc [] x = refl
@@ -93,22 +93,26 @@ choose-allowed (j ∷ js) (f ∷ fs) h = (step f (h 0), choose-allowed js fs (λ
 pub choose-choice : (js : List Job) (fs : List Bool) → ((i : ℕ) → getD fs i false ≡ true → T (canGoAt js i)) → Choice js (choose js fs)
 choose-choice js fs h = record { each = choose-jobs js fs; allowed = choose-allowed js fs h }
 
-pub choose-away : (js : List Job) (fs : List Bool) (i : ℕ) → length fs ≤ length js → (getD (choose js fs) i noChoice) .away ≡ getD fs i false
-choose-away [] [] i h = refl
-choose-away [] (f ∷ fs) i h = absurd (omega arith)
+pub choose-away : (js : List Job) (fs : List Bool) (i : ℕ) → i < length js → (getD (choose js fs) i noChoice) .away ≡ getD fs i false
+choose-away [] fs i h = absurd (omega arith)
 choose-away (j ∷ js) [] zero h = refl
 choose-away (j ∷ js) [] (suc i) h = choose-away js [] i (omega arith)
 choose-away (j ∷ js) (f ∷ fs) zero h = refl
 choose-away (j ∷ js) (f ∷ fs) (suc i) h = choose-away js fs i (omega arith)
 
-map-same : (f g : ℕ → Bool) → ((i : ℕ) → f i ≡ g i) → (is : List ℕ) → map f is ≡ map g is
-map-same f g h [] = refl
-map-same f g h (i ∷ is) = let p : f i ≡ g i = h i in let q : map f is ≡ map g is = map-same f g h is in cc
+-- the flags along the places are those of the choice
+along : (js : List Job) (fs : List Bool) (is : List ℕ) → All (λ (i : ℕ). i < length js) is
+    → map (λ (i : ℕ). (getD (choose js fs) i noChoice) .away) is ≡ map (λ (i : ℕ). getD fs i false) is
+along js fs [] h = refl
+along js fs (i ∷ is) h =
+    let p : (getD (choose js fs) i noChoice) .away ≡ getD fs i false = choose-away js fs i (h .0) in
+    let q : map (λ (i : ℕ). (getD (choose js fs) i noChoice) .away) is ≡ map (λ (i : ℕ). getD fs i false) is = along js fs is (h .1) in
+    cc
 
 -- the choice whose flags along the places are the mask's digits has that mask
-pub choose-mask : (js : List Job) (fs : List Bool) (m : ℕ) → ((i : ℕ) → getD fs i false ≡ true → T (canGoAt js i)) → length fs ≤ length js
+pub choose-mask : (js : List Job) (fs : List Bool) (m : ℕ) → ((i : ℕ) → getD fs i false ≡ true → T (canGoAt js i))
     → map (λ (i : ℕ). getD fs i false) (places js) ≡ digits (length (places js)) m → m < 2 ^ length (places js) → maskOf (choose js fs) ≡ m
-choose-mask js fs m a l e h =
+choose-mask js fs m a e h =
     mask-places js (choose js fs) (choose-choice js fs a)
-    ∙ ap ofDigits (map-same (λ (i : ℕ). (getD (choose js fs) i noChoice) .away) (λ (i : ℕ). getD fs i false) (λ i. choose-away js fs i l) (places js) ∙ e)
+    ∙ ap ofDigits (along js fs (places js) (places-below js) ∙ e)
     ∙ of-digits (length (places js)) m h

@@ -15,6 +15,7 @@ pub mod GivenOrder
 pub mod Runs
 pub mod Places
 pub mod Flags
+pub mod Free
 pub mod Bounds
 pub mod Held
 pub mod Laying
