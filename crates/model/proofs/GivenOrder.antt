@@ -64,7 +64,7 @@ module _ (D t : ℕ) (j : Job) where
       ap (λ (b : Bool). cond b (some sent) (cond (leb (t + C) D) (some kept) none)) e ∙ ap (λ (b : Bool). cond b (some kept) none) (le-leb (t + C) D h)
 
   -- what is decided finishes by D
-  decide-fits : (c : Chosen) → decide D t j ≡ some c → (c .job ≡ j) × Allowed c × (t + span c + wait c ≤ D)
+  pub decide-fits : (c : Chosen) → decide D t j ≡ some c → (c .job ≡ j) × Allowed c × (t + span c + wait c ≤ D)
   decide-fits c e = step (goes D t j) (leb (t + C) D) refl refl e
     where
       as-is : (x : Chosen) → (x .job ≡ j) × Allowed x × (t + span x + wait x ≤ D) → some x ≡ some c → (c .job ≡ j) × Allowed c × (t + span c + wait c ≤ D)
@@ -109,7 +109,7 @@ beats D t u d h a f = step (goes D t (d .job)) (d .away) refl refl a f
 
 -- The whole run.
 
-given-on : (D t : ℕ) (j : Job) (js : List Job) (c : Chosen) → decide D t j ≡ some c → given D t (j ∷ js) ≡ put c (given D (t + span c) js)
+pub given-on : (D t : ℕ) (j : Job) (js : List Job) (c : Chosen) → decide D t j ≡ some c → given D t (j ∷ js) ≡ put c (given D (t + span c) js)
 given-on D t j js c e = ap (λ (o : Option Chosen). elim o as (λ (x : Option Chosen). Option (List Chosen)) [ none ↦ none | some x ↦ put x (given D (t + span x) js) ]) e
 
 pub record Found (D t : ℕ) (ds : List Chosen) : Type 0 where

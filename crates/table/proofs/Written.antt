@@ -3,21 +3,19 @@
 use Prim.Native.Nat.{ℕ, zero, suc, _+_, _*_, _%_, _/_, _≤_, _<_}
 use native.Mathlib.Numerals.{add-one}
 use native.Mathlib.Omega.{arith}
-use mathlib.Core.Path.{_≡_, ap, sym, _∙_}
-use mathlib.Core.List.{List, [], _∷_, _++_, append-nil}
-use lib.ListN.{length, getD, drop, length-append, drop-of-length-le}
-use lib.Seq.{drop-cons, append-snoc}
+use mathlib.Core.Path.{_≡_, refl, ap, sym, _∙_}
+use mathlib.Core.List.{List, [], _∷_, _++_}
+use lib.ListN.{length, getD, drop, length-append}
+use lib.Seq.{drop-cons}
 use Rattle.model.specs.declared.Job.{Job}
 use Rattle.model.specs.Lists.{All}
-use Rattle.table.specs.declared.refusal.Place.{Place}
-use Rattle.table.specs.declared.JobRead.{JobRead}
-use Rattle.table.specs.declared.JobRead.the-variants.{JobIs, JobsEnd}
 use Rattle.table.specs.Limits.{mostJobs, longestTable}
 use Rattle.table.specs.Refusals.{accepted}
-use Rattle.table.specs.Records.{wordAt}
-use Rattle.table.specs.Tables.{JobTable, jobAt, readTable, wordBytes, jobBytes, jobsBytes, tableBytes}
-use Rattle.table.proofs.Tables.{hereAt, eitherAt, row-all, job-few}
-use Rattle.table.proofs.Accepted.{Rows, rows-end, rows-more, accepted-read}
+use Rattle.table.specs.Records.{wordAt, one, last}
+use Rattle.table.specs.Tables.{JobTable, jobId, jobsRead, readTable, wordBytes, jobBytes, jobsBytes, tableBytes}
+use Rattle.table.proofs.Listed.{joined, listed-all, listed-bytes}
+use Rattle.table.proofs.Tables.{rowEntry, RowIs, row-here, row-either, row-end, row-is, row-few}
+use Rattle.table.proofs.Accepted.{accepted-read}
 
 -- the two bytes of a two-byte number
 word-parts : (a b : ℕ) → a < 256 → wordBytes (a + 256 * b) ≡ a ∷ b ∷ []
@@ -45,79 +43,46 @@ module _ (s : List ℕ) (bytes : All (λ (b : ℕ). b < 256) s) where
       (ap (λ (l : List ℕ). getD s at 0 ∷ l) (byte-here (at + 1) h ∙ rw next) ∙
       sym (ap (λ (w : List ℕ). w ++ drop (at + 2) s) (word-parts (getD s at 0) (getD s (at + 1) 0) (below at))))
 
-  -- the bytes of a job that is read, and of the end
-  here-bytes : (at : ℕ) → getD s at 0 ≡ 0x11 → at + 4 ≤ length s → drop at s ≡ jobBytes (hereAt s at) ++ drop (at + 4) s
-  here-bytes at kind h =
+  -- the bytes of a job's record: kind, id and C, and then S and I
+  job-bytes : (at : ℕ) → at + 4 ≤ length s → drop at s ≡ getD s at 0 ∷ getD s (at + 1) 0 ∷ (wordBytes (wordAt s (at + 2)) ++ drop (at + 4) s)
+  job-bytes at h =
       let two : at + 1 + 1 ≡ at + 2 = omega arith in
       let four : at + 2 + 2 ≡ at + 4 = omega arith in
       byte-here at (omega arith) ∙
-      rw kind
-      (ap (λ (l : List ℕ). 0x11 ∷ l)
-      (byte-here (at + 1) (omega arith) ∙
-      rw two (ap (λ (l : List ℕ). getD s (at + 1) 0 ∷ l) (word-here (at + 2) (omega arith) ∙ rw four))))
+      ap (λ (l : List ℕ). getD s at 0 ∷ l)
+      (byte-here (at + 1) (omega arith) ∙ rw two (ap (λ (l : List ℕ). getD s (at + 1) 0 ∷ l) (word-here (at + 2) (omega arith) ∙ rw four)))
 
-  either-bytes : (at : ℕ) → getD s at 0 ≡ 0x12 → at + 8 ≤ length s → drop at s ≡ jobBytes (eitherAt s at) ++ drop (at + 8) s
-  either-bytes at kind h =
-      let two : at + 1 + 1 ≡ at + 2 = omega arith in
-      let four : at + 2 + 2 ≡ at + 4 = omega arith in
+  times-bytes : (at : ℕ) → at + 8 ≤ length s → drop (at + 4) s ≡ wordBytes (wordAt s (at + 4)) ++ (wordBytes (wordAt s (at + 6)) ++ drop (at + 8) s)
+  times-bytes at h =
       let six : at + 4 + 2 ≡ at + 6 = omega arith in
       let eight : at + 6 + 2 ≡ at + 8 = omega arith in
-      byte-here at (omega arith) ∙
-      rw kind
-      (ap (λ (l : List ℕ). 0x12 ∷ l)
-      (byte-here (at + 1) (omega arith) ∙
-      rw two
-      (ap (λ (l : List ℕ). getD s (at + 1) 0 ∷ l)
-      (word-here (at + 2) (omega arith) ∙
-      rw four
-      (ap (λ (l : List ℕ). wordBytes (wordAt s (at + 2)) ++ l)
-      (word-here (at + 4) (omega arith) ∙
-      rw six (ap (λ (l : List ℕ). wordBytes (wordAt s (at + 4)) ++ l) (word-here (at + 6) (omega arith) ∙ rw eight))))))))
+      word-here (at + 4) (omega arith) ∙
+      rw six (ap (λ (l : List ℕ). wordBytes (wordAt s (at + 4)) ++ l) (word-here (at + 6) (omega arith) ∙ rw eight))
 
-  job-bytes : (at n : ℕ) (j : Job) (p : Place) → jobAt s at n ≡ JobIs j p → drop at s ≡ jobBytes j ++ drop (p .at) s
-  job-bytes at n j p e =
-      row-all s at n (λ (a : JobRead). a ≡ JobIs j p → drop at s ≡ jobBytes j ++ drop (p .at) s)
-      (λ f x. cc)
-      (λ b h few t x.
-      let same : hereAt s at ≡ j = cc in
-      let next : at + 4 ≡ p .at = cc in
-      rw (← same, ← next) (here-bytes at b h))
-      (λ b h few t u v x.
-      let same : eitherAt s at ≡ j = cc in
-      let next : at + 8 ≡ p .at = cc in
-      rw (← same, ← next) (either-bytes at b h))
-      (λ b h x. cc)
-      e
+  -- the bytes of a job that is read, and of the end
+  row-bytes : {at n : ℕ} {j : Job} {p : ℕ} → RowIs s at n (one j p) → drop at s ≡ jobBytes j ++ drop p s
+  row-bytes {at} (row-here b h few t) = rw (← b) (job-bytes at h)
+  row-bytes {at} (row-either b h few t u v) = rw (← b, ← times-bytes at h) (job-bytes at (omega arith))
 
-  end-bytes : (at n : ℕ) (p : Place) → jobAt s at n ≡ JobsEnd p → length s ≤ p .at → drop at s ≡ 0x1F ∷ []
-  end-bytes at n p e =
-      row-all s at n (λ (a : JobRead). a ≡ JobsEnd p → length s ≤ p .at → drop at s ≡ 0x1F ∷ [])
-      (λ f x z. cc)
-      (λ b h few t x z. cc)
-      (λ b h few t u v x z. cc)
-      (λ b h x z.
-      let next : at + 1 ≡ p .at = cc in
-      byte-here at (omega arith) ∙ rw b (ap (λ (l : List ℕ). 0x1F ∷ l) (rw next (drop-of-length-le s {i = p .at} z))))
-      e
+  end-bytes : {at n p : ℕ} → RowIs s at n (last p) → drop at s ≡ (0x1F ∷ []) ++ drop p s
+  end-bytes {at} (row-end b h) = rw (← b) (byte-here at (omega arith))
 
-  -- the bytes from a place on are those of the jobs that are still to come
-  rows-bytes :
-      {before js : List Job} {at : ℕ} → Rows s before at js →
-      (rest : List Job) × (js ≡ before ++ rest) × (drop at s ≡ jobsBytes rest)
-  unfolding jobsBytes
-  rows-bytes {before} {js} {at} (rows-end {p = p} e z) = ([], sym (append-nil before), end-bytes at (length before) p e z)
-  rows-bytes {before} {js} {at} (rows-more {j = j} {p = p} e new more) =
-      let r = rows-bytes more in
-      (j ∷ r .0, r .1 ∙ append-snoc before j (r .0), job-bytes at (length before) j p e ∙ rw (r .2))
+-- the bytes of the jobs are those of each job, and then the end record's
+pub bytes-joined : (js : List Job) → jobsBytes js ≡ joined jobBytes js (0x1F ∷ [])
+unfolding jobsBytes
+bytes-joined [] = refl
+bytes-joined (j ∷ js) = ap (λ (l : List ℕ). jobBytes j ++ l) (bytes-joined js)
 
 pub read-bytes : (s : List ℕ) (t : JobTable) → All (λ (b : ℕ). b < 256) s → readTable s ≡ accepted t → tableBytes t ≡ s
-unfolding tableBytes
+unfolding tableBytes jobsRead
 read-bytes s t bytes e =
     let r = accepted-read s t e in
     let whole : 3 ≤ length s = r .whole in
-    let b = rows-bytes s bytes (r .rows) in
     let first : drop 0 s ≡ 0x10 ∷ drop 1 s = rw (← r .kind) (byte-here s bytes 0 (omega arith)) in
-    let rest : drop 3 s ≡ jobsBytes (t .jobs) = rw (b .1) (b .2) in
+    let rest : drop 3 s ≡ jobsBytes (t .jobs) =
+    listed-bytes jobId s (rowEntry s) jobBytes (0x1F ∷ [])
+    (λ at n j p x. row-bytes s bytes (row-is s at n x)) (λ at n p x. end-bytes s bytes (row-is s at n x)) 3 (t .jobs) (r .jobs) ∙
+    sym (bytes-joined (t .jobs)) in
     sym
     (first ∙
     ap (λ (l : List ℕ). 0x10 ∷ l)
@@ -128,32 +93,21 @@ pub read-injective :
     readTable s ≡ accepted t → readTable u ≡ accepted t → s ≡ u
 read-injective s u t bs bu e f = sym (read-bytes s t bs e) ∙ read-bytes u t bu f
 
--- a record takes at most eight bytes
-job-next : (s : List ℕ) (at n : ℕ) (j : Job) (p : Place) → jobAt s at n ≡ JobIs j p → p .at ≤ at + 8
-job-next s at n j p e =
-    row-all s at n (λ (a : JobRead). a ≡ JobIs j p → p .at ≤ at + 8)
-    (λ f x. absurd (let z : _≡_ {A = ℕ} 0 1 = cc in omega arith))
-    (λ b h few t x.
-    let next : at + 4 ≡ p .at = cc in
-    omega arith)
-    (λ b h few t u v x.
-    let next : at + 8 ≡ p .at = cc in
-    omega arith)
-    (λ b h x. absurd (let z : _≡_ {A = ℕ} 0 1 = cc in omega arith))
-    e
+-- a job's record takes at most eight bytes, and the end record one
+row-next : {s : List ℕ} {at n : ℕ} {j : Job} {p : ℕ} → RowIs s at n (one j p) → p ≤ at + 8
+row-next (row-here b h few t) = omega arith
+row-next (row-either b h few t u v) = omega arith
 
-end-next : (s : List ℕ) (at n : ℕ) (p : Place) → jobAt s at n ≡ JobsEnd p → p .at ≡ at + 1
-end-next s at n p e =
-    row-all s at n (λ (a : JobRead). a ≡ JobsEnd p → p .at ≡ at + 1) (λ f x. cc) (λ b h few t x. cc) (λ b h few t u v x. cc) (λ b h x. cc) e
-
-rows-length :
-    {s : List ℕ} {before js : List Job} {at : ℕ} → Rows s before at js →
-    at ≤ 3 + 8 * length before → length before ≤ mostJobs → length s ≤ longestTable
-rows-length {s} {before} {js} {at} (rows-end {p = p} e z) h few = omega (arith, end-next s at (length before) p e)
-rows-length {s} {before} {js} {at} (rows-more {j = j} {p = p} e new more) h few =
-    rows-length more
-    (simp length-append (omega (arith, job-next s at (length before) j p e)))
-    (simp length-append (omega (arith, job-few s at (length before) j p e)))
+end-next : {s : List ℕ} {at n p : ℕ} → RowIs s at n (last p) → p ≡ at + 1
+end-next (row-end b h) = refl
 
 pub accepted-length : (s : List ℕ) (t : JobTable) → readTable s ≡ accepted t → length s ≤ longestTable
-accepted-length s t e = rows-length (accepted-read s t e .rows) (omega arith) (omega arith)
+unfolding jobsRead
+accepted-length s t e =
+    listed-all jobId (rowEntry s) (length s)
+    (λ (js : List Job) (at : ℕ). (at ≤ 3 + 8 * length js) × (length js ≤ mostJobs)) (λ (js : List Job). length s ≤ longestTable)
+    (λ js at j p i x new.
+    let row = row-is s at (length js) x in
+    simp length-append (omega (arith, row-next row), omega (arith, row-few row)))
+    (λ js at p i x end. omega (arith, end-next (row-is s at (length js) x)))
+    (suc mostJobs) [] 3 (omega arith, omega arith) (t .jobs) (accepted-read s t e .jobs)

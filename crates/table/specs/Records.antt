@@ -1,13 +1,13 @@
 -- Document 01, 'Bytes': the kinds of record, and what is judged of every record before its body.
 -- Assumes nothing.
-use Prim.Native.Nat.{ℕ, _+_, _-_, _*_}
-use mathlib.Core.Bool.{Bool, cond}
-use mathlib.Core.List.{List}
+use Prim.Native.Nat.{ℕ, zero, suc, _+_, _-_, _*_}
+use mathlib.Core.Bool.{Bool, false, cond, _||_}
+use mathlib.Core.List.{List, [], _∷_, _++_, map}
 use mathlib.Core.Option.{Option, none, some}
 use lib.ListN.{length, getD}
 use lib.Dec.{ltb, leb, eqb}
 use Rattle.table.specs.declared.refusal.Refusal.{Refusal}
-use Rattle.table.specs.declared.refusal.Refusal.the-variants.{Short, Kind}
+use Rattle.table.specs.declared.refusal.Refusal.the-variants.{Short, Kind, Many, Twice, After}
 use Rattle.table.specs.declared.kind.RowKind.{RowKind}
 use Rattle.table.specs.declared.kind.RowKind.the-variants.{HereRow, EitherRow, EndRow}
 use Rattle.table.specs.declared.kind.StepKind.{StepKind}
@@ -15,7 +15,7 @@ use Rattle.table.specs.declared.kind.StepKind.the-variants.{HereStep, Aw
 use Rattle.table.specs.declared.kind.Meaning.{Meaning}
 use Rattle.table.specs.declared.kind.Meaning.the-variants.{Frame, Row, Step, Unknown}
 use Rattle.table.specs.declared.kind.Form.{Form}
-use Rattle.table.specs.Refusals.{place}
+use Rattle.table.specs.Refusals.{place, Outcome, accepted, refused}
 
 -- "Two-byte numbers are low byte first."
 abbrev pub wordAt : List ℕ → ℕ → ℕ
@@ -67,3 +67,29 @@ module _ {K R : Type 0} (refuse : Refusal → R) (read : K → R) where
       cond (ltb at (length s))
       (allowed at (leb (formOf (getD s at 0) .body) (length s - (at + 1))) (may (formOf (getD s at 0) .meaning)))
       (refuse (Short (place at)))
+
+-- A file is a list of records, each with an id of its own, and an end record.
+
+-- what the reading of one record comes to: one more of what is listed, with the place after it; the end, with the place after it; or a refusal
+pub data Entry (A : Type 0) : Type 0 where
+  one : A → ℕ → Entry A
+  last : ℕ → Entry A
+  bad : Refusal → Entry A
+
+-- "id used before in the same file"
+unfoldable pub used : List ℕ → ℕ → Bool
+used [] id = false
+used (i ∷ is) id = eqb i id || used is id
+
+module _ {A : Type 0} (idOf : A → ℕ) (entryAt : ℕ → ℕ → Entry A) (size : ℕ) where
+  -- what the record at `at` leads to, with what is listed before it: an id used before TWICE; "After the end record, AFTER"; `on` reads the records after it
+  abbrev pub follow : (List A → ℕ → Outcome (List A)) → List A → ℕ → Entry A → Outcome (List A)
+  follow on before at (one x p) = cond (used (map idOf before) (idOf x)) (refused (Twice (place at))) (on (before ++ (x ∷ [])) p)
+  follow on before at (last p) = cond (leb size p) (accepted before) (refused (After (place p)))
+  follow on before at (bad f) = refused f
+
+  -- "Records are judged in file order": those from `at` on, of which `left` may still come, 32 that are listed and the end.
+  -- `entryAt at n` reads the record at `at` with n listed before it, and refuses a 33rd, so `left` is never 0 before the end.
+  unfoldable pub listFrom : ℕ → List A → ℕ → Outcome (List A)
+  listFrom zero before at = refused (Many (place at))
+  listFrom (suc left) before at = follow (listFrom left) before at (entryAt at (length before))

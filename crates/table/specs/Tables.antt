@@ -1,18 +1,18 @@
 -- Document 01, 'Bytes': "A table is one 0x10 first, 0 to 32 jobs with distinct ids, one 0x1F, nothing after."
 -- `readTable` says what a byte string means as a table, or which refusal it gets. Assumes nothing.
-use Prim.Native.Nat.{ℕ, zero, suc, _+_, _-_, _%_, _/_, _≤_}
+use Prim.Native.Nat.{ℕ, suc, _+_, _-_, _%_, _/_, _≤_}
 use mathlib.Core.Path.{_≡_}
-use mathlib.Core.Bool.{Bool, false, cond, _&&_, _||_}
+use mathlib.Core.Bool.{Bool, cond, _&&_}
 use mathlib.Core.List.{List, [], _∷_, _++_}
 use lib.ListN.{length, getD, replicate}
-use lib.Dec.{ltb, leb, eqb}
+use lib.Dec.{ltb, leb}
 use Rattle.model.specs.declared.Sending.{Sending}
 use Rattle.model.specs.declared.Sending.the-variants.{HereOnly, Either}
 use Rattle.model.specs.declared.Job.{Job}
 use Rattle.model.specs.Positions.{noJob}
 use Rattle.model.specs.Lists.{All, Pairwise}
 use Rattle.model.specs.Timetable.{setupTime, returnTime}
-use Rattle.table.specs.declared.refusal.Refusal.the-variants.{Range, Many, Twice, After}
+use Rattle.table.specs.declared.refusal.Refusal.the-variants.{Range, Many, After}
 use Rattle.table.specs.declared.kind.RowKind.{RowKind}
 use Rattle.table.specs.declared.kind.RowKind.the-variants.{HereRow, EitherRow, EndRow}
 use Rattle.table.specs.declared.Table.{Table}
@@ -24,7 +24,7 @@ use Rattle.table.specs.declared.TableVerdict.the-variants.{Whole, Refuse
 use Rattle.table.specs.declared.TableRead.{TableRead}
 use Rattle.table.specs.Limits.{mostJobs, largestTime}
 use Rattle.table.specs.Refusals.{place, Outcome, accepted, refused}
-use Rattle.table.specs.Records.{wordAt, frameOnly, rowOnly, judged}
+use Rattle.table.specs.Records.{wordAt, frameOnly, rowOnly, judged, Entry, one, last, bad, listFrom}
 
 -- What a table means: a deadline and its jobs.
 pub record JobTable : Type 0 where
@@ -43,16 +43,19 @@ unfoldable pub frameAt : List ℕ → FrameRead
 frameAt s = judged FrameRefused (λ (u : Unit {0}). deadlineAt s) frameOnly s 0
 
 -- The bodies of the two kinds of job, once they are whole: "here-only: id, C", "either: id, C, S, I".
+abbrev pub hereAt : List ℕ → ℕ → Job
+hereAt s at = record { id = getD s (at + 1) 0; local = wordAt s (at + 2); sending = HereOnly }
+
+abbrev pub eitherAt : List ℕ → ℕ → Job
+eitherAt s at = record { id = getD s (at + 1) 0; local = wordAt s (at + 2); sending = Either (wordAt s (at + 4)) (wordAt s (at + 6)) }
+
 abbrev pub hereJob : List ℕ → ℕ → JobRead
-hereJob s at =
-    cond (timeOk (wordAt s (at + 2)))
-    (JobIs (record { id = getD s (at + 1) 0; local = wordAt s (at + 2); sending = HereOnly }) (place (at + 4)))
-    (JobRefused (Range (place at)))
+hereJob s at = cond (timeOk (wordAt s (at + 2))) (JobIs (hereAt s at) (place (at + 4))) (JobRefused (Range (place at)))
 
 abbrev pub eitherJob : List ℕ → ℕ → JobRead
 eitherJob s at =
     cond (timeOk (wordAt s (at + 2)) && (timeOk (wordAt s (at + 4)) && timeOk (wordAt s (at + 6))))
-    (JobIs (record { id = getD s (at + 1) 0; local = wordAt s (at + 2); sending = Either (wordAt s (at + 4)) (wordAt s (at + 6)) }) (place (at + 8)))
+    (JobIs (eitherAt s at) (place (at + 8)))
     (JobRefused (Range (place at)))
 
 -- "33rd job MANY; RANGE", where `count` jobs stand before
@@ -64,29 +67,26 @@ rowBody s at count EndRow = JobsEnd (place (at + 1))
 unfoldable pub jobAt : List ℕ → ℕ → ℕ → JobRead
 jobAt s at count = judged JobRefused (rowBody s at count) rowOnly s at
 
--- "TWICE: id used before in the same file"
-unfoldable pub hasId : List Job → ℕ → Bool
-hasId [] id = false
-hasId (j ∷ js) id = eqb (j .id) id || hasId js id
+-- a record's answer as the reading of one record
+abbrev pub jobEntry : JobRead → Entry Job
+jobEntry (JobIs j p) = one j (p .at)
+jobEntry (JobsEnd p) = last (p .at)
+jobEntry (JobRefused f) = bad f
 
--- "After the end record, AFTER."
-unfoldable pub ended : List ℕ → ℕ → List Job → ℕ → Outcome JobTable
-ended s D js at = cond (leb (length s) at) (accepted (record { deadline = D; jobs = js })) (refused (After (place at)))
+abbrev pub jobId : Job → ℕ
+jobId j = j .id
 
--- What the record at `at` leads to, with the jobs before it; `on` reads the records after it.
-abbrev pub afterJob : (List Job → ℕ → Outcome JobTable) → List ℕ → ℕ → List Job → ℕ → JobRead → Outcome JobTable
-afterJob on s D before at (JobIs j p) = cond (hasId before (j .id)) (refused (Twice (place at))) (on (before ++ (j ∷ [])) (p .at))
-afterJob on s D before at (JobsEnd p) = ended s D before (p .at)
-afterJob on s D before at (JobRefused f) = refused f
+-- "0 to 32 jobs with distinct ids, one 0x1F, nothing after": the records after the first, which takes three bytes
+unfoldable pub jobsRead : List ℕ → Outcome (List Job)
+jobsRead s = listFrom jobId (λ (at count : ℕ). jobEntry (jobAt s at count)) (length s) (suc mostJobs) [] 3
 
--- "Records are judged in file order": those from `at` on, of which `left` may still come, 32 jobs and the end.
--- (A 33rd job is refused by `rowBody`, so `left` is never 0 before the end.)
-unfoldable pub jobsFrom : ℕ → List ℕ → ℕ → List Job → ℕ → Outcome JobTable
-jobsFrom zero s D before at = refused (Many (place at))
-jobsFrom (suc left) s D before at = afterJob (jobsFrom left s D) s D before at (jobAt s at (length before))
+-- the jobs, with the deadline beside them
+abbrev pub withDeadline : ℕ → Outcome (List Job) → Outcome JobTable
+withDeadline D (accepted js) = accepted (record { deadline = D; jobs = js })
+withDeadline D (refused f) = refused f
 
 abbrev pub afterFrame : List ℕ → FrameRead → Outcome JobTable
-afterFrame s (Deadline D) = jobsFrom (suc mostJobs) s D [] 3
+afterFrame s (Deadline D) = withDeadline D (jobsRead s)
 afterFrame s (FrameRefused f) = refused f
 
 unfoldable pub readTable : List ℕ → Outcome JobTable
@@ -119,7 +119,7 @@ abbrev pub tableRead : Outcome JobTable → TableRead
 tableRead (accepted t) = record { verdict = Whole; table = tableOf (t .deadline) (t .jobs) }
 tableRead (refused f) = record { verdict = Refused f; table = emptyTable }
 
--- what `ended_at` answers, whatever the table that it is given: `ended`, told of the table as the code holds it
+-- what `ended_at` answers: "After the end record, AFTER", told of the table as the code holds it, whichever it is given
 unfoldable pub endedWith : List ℕ → Table → ℕ → TableRead
 endedWith s t at = cond (leb (length s) at) (record { verdict = Whole; table = t }) (tableRead (refused (After (place at))))
 

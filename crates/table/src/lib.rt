@@ -9,13 +9,12 @@ use model::Sending;
 use refusal::Place;
 use refusal::Refusal;
 ghost use mathlib.Core.Path.{_≡_};
-ghost use mathlib.Core.List.{[]};
-ghost use Prim.Native.Nat.{suc, _+_, _<_, _≤_};
+ghost use Prim.Native.Nat.{_+_, _<_, _≤_};
 ghost use lib.ListN.{length};
 ghost use Rattle.table.specs.Limits.{mostJobs, largestTime, longestTable, longestPlan};
 ghost use Rattle.table.specs.Refusals.{refused};
 ghost use Rattle.table.specs.Records.{wordAt};
-ghost use Rattle.table.specs.Tables.{frameAt, hereJob, eitherJob, jobAt, jobsFrom, readTable, emptyTable, tableRead, endedWith};
+ghost use Rattle.table.specs.Tables.{frameAt, hereJob, eitherJob, jobAt, jobsRead, withDeadline, readTable, emptyTable, tableRead, endedWith};
 
 pub struct Table {
     pub deadline: u16,
@@ -240,7 +239,7 @@ fn ended_at(s: &[u8], table: Table, at: usize) -> TableRead
 
 // The records after the first; `seen` tells the ids that stand before.
 fn jobs_from(s: &[u8], deadline: u16) -> TableRead
-    ensures { λ r. ⌜ r ≡ tableRead (jobsFrom (suc mostJobs) (now (s .entry)) deadline [] 3) ⌝ }
+    ensures { λ r. ⌜ r ≡ tableRead (withDeadline deadline (jobsRead (now (s .entry)))) ⌝ }
 {
     let mut t = Table::empty();
     t.deadline = deadline;

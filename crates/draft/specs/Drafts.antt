@@ -1,0 +1,30 @@
+-- A plan in the making: the jobs laid so far in plan order, as steps and as numbers.
+-- Assumes nothing.
+use mathlib.Core.Bool.{true, false}
+use mathlib.Core.List.{List, [], map}
+use mathlib.Core.Option.{Option, none, some}
+use Rattle.model.specs.Timetable.{Chosen}
+use Rattle.model.specs.Laying.{laidOf, laidWith}
+use Rattle.plan.specs.declared.Step.{Step}
+use Rattle.plan.specs.Plans.{planOf, withStep}
+use Rattle.draft.specs.declared.Draft.{Draft}
+use Rattle.draft.specs.declared.Drafted.{Drafted}
+
+-- a job with its choice, as a line of a plan
+abbrev pub stepOf : Chosen → Step
+stepOf c = record { id = c .job .id; away = c .away }
+
+abbrev pub stepsFor : List Chosen → List Step
+stepsFor cs = map stepOf cs
+
+-- the draft that has these jobs, in this order
+abbrev pub draftOf : List Chosen → Draft
+draftOf cs = record { plan = planOf (stepsFor cs); laid = laidOf cs }
+
+abbrev pub withChosen : Draft → Chosen → Draft
+withChosen d c = record { plan = withStep (d .plan) (stepOf c); laid = laidWith (d .laid) c }
+
+-- what a planner finds: a plan in plan order, or none
+abbrev pub draftedOf : Option (List Chosen) → Drafted
+draftedOf none = record { found = false; draft = draftOf [] }
+draftedOf (some cs) = record { found = true; draft = draftOf cs }

@@ -1,0 +1,44 @@
+// A plan in the making: its steps so far, with their busy total and last finish. Both planners make theirs with it.
+use model::Job;
+use model::Laid;
+use plan::Plan;
+use plan::Step;
+ghost use mathlib.Core.Path.{_≡_};
+ghost use mathlib.Core.List.{[]};
+ghost use Prim.Native.Nat.{_≤_, _<_};
+ghost use Rattle.model.specs.Laying.{chosen};
+ghost use Rattle.draft.specs.Drafts.{draftOf, withChosen};
+
+pub struct Draft {
+    pub plan: Plan,
+    pub laid: Laid,
+}
+
+// A planner's result: an enum does not hold an array, so the draft stands beside `found`, and has no steps where nothing is found.
+pub struct Drafted {
+    pub found: bool,
+    pub draft: Draft,
+}
+
+impl Draft {
+    // The draft with no steps.
+    pub fn empty() -> Draft
+        ensures { λ r. ⌜ r ≡ draftOf [] ⌝ }
+    {
+        let plan = Plan::empty();
+        let laid = Laid { busy: 0, last: 0 };
+        Draft { plan, laid }
+    }
+
+    // With one job more at its end.
+    pub fn with_job(self, job: Job, away: bool) -> Draft
+        requires { ⌜ (self .plan .count < 32) × (self .laid .busy ≤ 4000000000) ⌝ }
+        ensures { λ r. ⌜ r ≡ withChosen self (chosen job away) ⌝ }
+    {
+        let before = self.plan;
+        let behind = self.laid;
+        let plan = before.with_step(Step { id: job.id, away });
+        let laid = behind.with(job, away);
+        Draft { plan, laid }
+    }
+}

@@ -1,0 +1,80 @@
+// The given-order planner on a table that is read: document 01's Algorithm 1, one pass over the jobs in table order.
+use draft::Draft;
+use draft::Drafted;
+use model::Job;
+use model::Sending;
+use table::Table;
+ghost use mathlib.Core.Path.{_≡_};
+ghost use Prim.Native.Nat.{_≤_};
+ghost use lib.ListN.{take};
+ghost use Rattle.model.specs.GivenOrder.{goes, decide, given};
+ghost use Rattle.draft.specs.Drafts.{draftedOf};
+ghost use Rattle.given.specs.Given.{decisionOf};
+
+// What becomes of the next job: it is run, away or here, or it cannot be on time.
+pub enum Decision {
+    Run(bool),
+    Neither,
+}
+
+// At time t a job is sent away if it is an either job, S < C and t + S + I <= d.
+fn is_sent(d: u32, t: u32, job: Job) -> bool
+    requires { ⌜ t ≤ 4000000000 ⌝ }
+    ensures { λ r. ⌜ r ≡ goes d t job ⌝ }
+{
+    let local = job.local;
+    let sending = job.sending;
+    match sending {
+        Sending::HereOnly => false,
+        Sending::Either { setup, back } => {
+            if setup < local {
+                let finish = t + setup as u32 + back as u32;
+                if finish <= d { true } else { false }
+            } else {
+                false
+            }
+        }
+    }
+}
+
+// Else it is kept here if t + C <= d.
+fn decided(d: u32, t: u32, job: Job) -> Decision
+    requires { ⌜ t ≤ 4000000000 ⌝ }
+    ensures { λ r. ⌜ r ≡ decisionOf (decide d t job) ⌝ }
+{
+    if is_sent(d, t, job) {
+        return Decision::Run(true);
+    }
+    let local = job.local;
+    let finish = t + local as u32;
+    if finish <= d {
+        Decision::Run(false)
+    } else {
+        Decision::Neither
+    }
+}
+
+// The plan in table order, if there is one.
+pub fn given_plan(t: Table) -> Drafted
+    requires { ⌜ t .count ≤ 32 ⌝ }
+    ensures { λ r. ⌜ r ≡ draftedOf (given (t .deadline) 0 (take (t .count) (t .jobs))) ⌝ }
+{
+    let d = t.deadline as u32;
+    let n = t.count;
+    let mut draft = Draft::empty();
+    let mut i = 0;
+    while i < n {
+        let job = t.jobs[i];
+        let decision = decided(d, draft.laid.busy, job);
+        let Decision::Run(away) = decision else {
+            let nothing = Draft::empty();
+            return Drafted {
+                found: false,
+                draft: nothing,
+            };
+        };
+        draft = draft.with_job(job, away);
+        i += 1;
+    }
+    Drafted { found: true, draft }
+}

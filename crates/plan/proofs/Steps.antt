@@ -1,0 +1,109 @@
+-- Laws of a plan's records and bytes that the functions' proofs use: what a record tells that is read, what is read where a
+-- record's bytes stand, the end of the loop, one more step, and the bytes of the steps from a place on. Assumes nothing.
+use Prim.Native.Nat.{ℕ, _+_, _-_, _*_, _≤_, _<_}
+use mathlib.Core.Path.{_≡_, refl}
+use mathlib.Core.Bool.{Bool, true, false, cond}
+use mathlib.Core.List.{List, [], _∷_, _++_}
+use lib.ListN.{length, getD, drop, replicate, length-append, drop-of-length-le}
+use lib.Seq.{take-append-seam, drop-cons}
+use lib.Dec.{ltb, leb}
+use native.Mathlib.Numerals.{add-one}
+use native.Mathlib.Omega.{arith}
+use borrow.Author.Tests.{ltb-true}
+use Rattle.model.proofs.Lists.{clash}
+use Rattle.table.specs.declared.refusal.Refusal.{Refusal}
+use Rattle.table.specs.declared.refusal.Refusal.the-variants.{After}
+use Rattle.table.specs.declared.kind.StepKind.{StepKind}
+use Rattle.table.specs.declared.kind.StepKind.the-variants.{HereStep, AwayStep, EndStep}
+use Rattle.table.specs.Limits.{mostJobs}
+use Rattle.table.specs.Refusals.{place, accepted, refused}
+use Rattle.table.specs.Records.{stepOnly, Entry, one, last}
+use Rattle.table.proofs.Records.{stepByte, stepLength, cond-all, step-kind, is-step, judged-all}
+use Rattle.table.proofs.Listed.{padded-more}
+use Rattle.plan.specs.declared.Step.{Step}
+use Rattle.plan.specs.declared.Record.the-variants.{Listed, Last}
+use Rattle.plan.specs.declared.RecordRead.{RecordRead}
+use Rattle.plan.specs.declared.RecordRead.the-variants.{RecordIs, RecordRefused}
+use Rattle.plan.specs.Plans.{stepBody, recordAt, stepEntry, planRead, endedAt, stepBytes, planBytes, noStep, planOf, stepsOf, withStep}
+
+-- the reading of one record of a plan
+abbrev pub planEntry : List ℕ → ℕ → ℕ → Entry Step
+planEntry s at n = stepEntry (recordAt s at n)
+
+-- What holds of every refusal, of each whole step and of the end holds of the record at a place.
+module _
+    (s : List ℕ) (at n : ℕ) (P : RecordRead → Type 0) (out : (f : Refusal) → P (RecordRefused f))
+    (listed :
+    (away : Bool) → getD s at 0 ≡ cond away 0x21 0x20 → at + 2 ≤ length s → n < mostJobs →
+    P (RecordIs (Listed (record { id = getD s (at + 1) 0; away = away }) (place (at + 2)))))
+    (end : getD s at 0 ≡ 0x2F → at + 1 ≤ length s → P (RecordIs (Last (place (at + 1))))) where
+  body-all : (k : StepKind) → getD s at 0 ≡ stepByte k → at + 1 + stepLength k ≤ length s → P (stepBody s at n k)
+  body-all HereStep b h = cond-all P (ltb n mostJobs) (λ few. listed false b (omega arith) (ltb-true _ _ few)) (λ o. out _)
+  body-all AwayStep b h = cond-all P (ltb n mostJobs) (λ few. listed true b (omega arith) (ltb-true _ _ few)) (λ o. out _)
+  body-all EndStep b h = end b (omega arith)
+
+  record-all : P (recordAt s at n)
+  unfolding recordAt
+  record-all =
+      judged-all RecordRefused (stepBody s at n) stepOnly s at P out
+      (λ k there may fits.
+      let step = step-kind (getD s at 0) k (is-step _ k may) in
+      body-all k (step .0) (omega (arith, step .1)))
+
+one-byte : (s : List ℕ) (at : ℕ) → at < length s → drop at s ≡ getD s at 0 ∷ drop (at + 1) s
+one-byte s at h = rw add-one (drop-cons s at 0 h)
+
+two-bytes : (s : List ℕ) (at : ℕ) → at + 2 ≤ length s → drop at s ≡ getD s at 0 ∷ getD s (at + 1) 0 ∷ drop (at + 2) s
+two-bytes s at h =
+    let e : at + 2 ≡ at + 1 + 1 = omega arith in
+    rw (e, ← one-byte s (at + 1) (omega arith)) (one-byte s at (omega arith))
+
+-- a step is read only while there is room, and its bytes stand there
+pub step-read : (s : List ℕ) (at n : ℕ) (x : Step) (p : ℕ) → planEntry s at n ≡ one x p → (n < mostJobs) × (drop at s ≡ stepBytes x ++ drop p s)
+step-read s at n x p =
+    record-all s at n (λ (a : RecordRead). stepEntry a ≡ one x p → (n < mostJobs) × (drop at s ≡ stepBytes x ++ drop p s))
+    (λ f e. clash (cc))
+    (λ away b h few e.
+    let is : record { id = getD s (at + 1) 0; away = away } ≡ x = cc in
+    let after : at + 2 ≡ p = cc in
+    (few, rw (← is, ← after, ← b) (two-bytes s at h)))
+    (λ b h e. clash (cc))
+
+pub end-read : (s : List ℕ) (at n p : ℕ) → planEntry s at n ≡ last p → drop at s ≡ (0x2F ∷ []) ++ drop p s
+end-read s at n p =
+    record-all s at n (λ (a : RecordRead). stepEntry a ≡ last p → drop at s ≡ (0x2F ∷ []) ++ drop p s)
+    (λ f e. clash (cc))
+    (λ away b h few e. clash (cc))
+    (λ b h e. let after : at + 1 ≡ p = cc in rw (← after, ← b) (one-byte s at (omega arith)))
+
+-- the end of the loop, told of the list and of the count
+pub ended-count : (s : List ℕ) (xs : List Step) (at : ℕ) → endedAt s (length xs) at ≡ planRead (cond (leb (length s) at) (accepted xs) (refused (After (place at))))
+ended-count s xs at = go (leb (length s) at)
+  where
+    go :
+        (whole : Bool) →
+        cond whole (planRead (accepted xs)) (planRead (refused (After (place at)))) ≡ planRead (cond whole (accepted xs) (refused (After (place at))))
+    go true = refl
+    go false = refl
+
+-- one more step in the array is one more step of the plan
+pub with-step-of : (xs : List Step) (x : Step) → length xs < mostJobs → withStep (planOf xs) x ≡ planOf (xs ++ (x ∷ []))
+with-step-of xs x h = rw (padded-more xs x noStep mostJobs h, length-append xs (x ∷ []))
+
+pub steps-of-plan : (xs : List Step) → stepsOf (planOf xs) ≡ xs
+steps-of-plan xs = take-append-seam xs (replicate (mostJobs - length xs) noStep)
+
+-- "A plan is 0 to 32 of 0x20 and 0x21 .., one 0x2F": two bytes for each step and one for the end
+pub plan-length : (xs : List Step) → length (planBytes xs) ≡ 2 * length xs + 1
+unfolding planBytes
+plan-length [] = refl
+plan-length (x ∷ xs) = omega (arith, plan-length xs)
+
+-- the bytes of the steps from the i-th on: one step more, or the end
+pub bytes-more : (xs : List Step) (i : ℕ) → i < length xs → planBytes (drop i xs) ≡ stepBytes (getD xs i noStep) ++ planBytes (drop (i + 1) xs)
+unfolding planBytes
+bytes-more xs i h = simp (drop-cons xs i noStep h, add-one)
+
+pub bytes-done : (xs : List Step) (i : ℕ) → length xs ≤ i → planBytes (drop i xs) ≡ 0x2F ∷ []
+unfolding planBytes
+bytes-done xs i h = rw (drop-of-length-le xs {i = i} h)

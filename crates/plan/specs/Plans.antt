@@ -1,0 +1,95 @@
+-- Document 01, 'Bytes': "A plan is 0 to 32 of 0x20 and 0x21 with distinct ids, one 0x2F, nothing after."
+-- `readPlan` says what a byte string means as a plan, or which refusal it gets. Assumes nothing.
+use Prim.Native.Nat.{ℕ, suc, _+_, _-_, _*_}
+use mathlib.Core.Bool.{Bool, true, false, cond}
+use mathlib.Core.List.{List, [], _∷_, _++_}
+use lib.ListN.{length, getD, take, set, replicate}
+use lib.Dec.{ltb, leb, eqb}
+use Rattle.table.specs.declared.refusal.Refusal.{Refusal}
+use Rattle.table.specs.declared.refusal.Refusal.the-variants.{Many, After, None}
+use Rattle.table.specs.declared.kind.StepKind.{StepKind}
+use Rattle.table.specs.declared.kind.StepKind.the-variants.{HereStep, AwayStep, EndStep}
+use Rattle.table.specs.Limits.{mostJobs}
+use Rattle.table.specs.Refusals.{place, Outcome, accepted, refused}
+use Rattle.table.specs.Records.{stepOnly, judged, Entry, one, last, bad, listFrom}
+use Rattle.plan.specs.declared.Step.{Step}
+use Rattle.plan.specs.declared.Record.the-variants.{Listed, Last}
+use Rattle.plan.specs.declared.RecordRead.{RecordRead}
+use Rattle.plan.specs.declared.RecordRead.the-variants.{RecordIs, RecordRefused}
+use Rattle.plan.specs.declared.PlanRead.{PlanRead}
+use Rattle.plan.specs.declared.PlanRead.the-variants.{PlanIs, PlanRefused}
+use Rattle.plan.specs.declared.Plan.{Plan}
+
+-- "33rd job MANY", where `count` steps stand before
+abbrev pub listedAt : List ℕ → ℕ → ℕ → Bool → RecordRead
+listedAt s at count away =
+    cond (ltb count mostJobs)
+    (RecordIs (Listed (record { id = getD s (at + 1) 0; away = away }) (place (at + 2))))
+    (RecordRefused (Many (place at)))
+
+-- "plan: run here, id", "plan: send away, id", "end of plan"
+abbrev pub stepBody : List ℕ → ℕ → ℕ → StepKind → RecordRead
+stepBody s at count HereStep = listedAt s at count false
+stepBody s at count AwayStep = listedAt s at count true
+stepBody s at count EndStep = RecordIs (Last (place (at + 1)))
+
+unfoldable pub recordAt : List ℕ → ℕ → ℕ → RecordRead
+recordAt s at count = judged RecordRefused (stepBody s at count) stepOnly s at
+
+-- a record's answer as the reading of one record
+abbrev pub stepEntry : RecordRead → Entry Step
+stepEntry (RecordIs (Listed x p)) = one x (p .at)
+stepEntry (RecordIs (Last p)) = last (p .at)
+stepEntry (RecordRefused f) = bad f
+
+abbrev pub stepId : Step → ℕ
+stepId x = x .id
+
+unfoldable pub readPlan : List ℕ → Outcome (List Step)
+readPlan s = listFrom stepId (λ (at count : ℕ). stepEntry (recordAt s at count)) (length s) (suc mostJobs) [] 0
+
+-- what `read_plan` answers: how many steps, or the refusal
+abbrev pub planRead : Outcome (List Step) → PlanRead
+planRead (accepted xs) = PlanIs (length xs)
+planRead (refused f) = PlanRefused f
+
+-- what `refusal_of` answers: a refused record's refusal, which is passed on; of a record that is read, which no reader asks, `None`
+abbrev pub refusalOf : RecordRead → Refusal
+refusalOf (RecordIs x) = None
+refusalOf (RecordRefused f) = f
+
+-- what `ended_at` answers: "After the end record, AFTER", told of how many steps there are
+abbrev pub endedAt : List ℕ → ℕ → ℕ → PlanRead
+endedAt s count at = cond (leb (length s) at) (PlanIs count) (PlanRefused (After (place at)))
+
+-- The bytes of a plan: the one byte string that reads as it.
+
+abbrev pub stepBytes : Step → List ℕ
+stepBytes x = cond (x .away) 0x21 0x20 ∷ x .id ∷ []
+
+unfoldable pub planBytes : List Step → List ℕ
+planBytes [] = 0x2F ∷ []
+planBytes (x ∷ xs) = stepBytes x ++ planBytes xs
+
+-- the k-th step, read where it stands; an id 0 kept here past the last one
+abbrev pub noStep : Step
+noStep = record { id = 0; away = false }
+
+unfoldable pub stepAt : List ℕ → ℕ → Step
+stepAt s k =
+    cond (ltb (2 * k + 1) (length s))
+    (record { id = getD s (2 * k + 1) 0; away = eqb (getD s (2 * k) 0) 0x21 })
+    noStep
+
+-- A plan as the code holds it while it is made: the entries that no step has hold `noStep`.
+
+abbrev pub planOf : List Step → Plan
+planOf xs = record { count = length xs; steps = xs ++ replicate (mostJobs - length xs) noStep }
+
+-- its steps
+abbrev pub stepsOf : Plan → List Step
+stepsOf p = take (p .count) (p .steps)
+
+-- one more step
+abbrev pub withStep : Plan → Step → Plan
+withStep p x = record { count = p .count + 1; steps = set (p .steps) (p .count) x }

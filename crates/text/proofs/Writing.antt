@@ -1,0 +1,62 @@
+-- Laws of what is written: it keeps the area's length, no word leaves the area alone, and one word after another is one word.
+-- Assumes nothing.
+use Prim.Native.Nat.{ℕ, _+_, _≤_, _<_}
+use mathlib.Core.Path.{_≡_, sym, ap, _∙_}
+use mathlib.Core.List.{List, [], _∷_, _++_, append-assoc}
+use lib.ListN.{length, take, drop, set, getD, length-append, length-drop, take-append-drop}
+use lib.Seq.{length-take-le, take-at, drop-at, drop-drop, set-split, drop-cons}
+use native.Mathlib.Numerals.{add-one}
+use native.Mathlib.Nat.{add-assoc, add-zero, zero-add}
+use native.Mathlib.Omega.{arith}
+use Rattle.text.specs.Writing.{written, Wrote}
+
+pub written-length : (out : List ℕ) (at : ℕ) (w : List ℕ) → at + length w ≤ length out → length (written out at w) ≡ length out
+unfolding written
+written-length out at w h =
+    let front : at ≤ length out = omega arith in
+    simp (length-append, length-take-le at out front, length-drop) (omega arith)
+
+pub written-nil : (out : List ℕ) (at : ℕ) → written out at [] ≡ out
+unfolding written
+written-nil out at = rw add-zero (take-append-drop at out)
+
+-- written at the front: the word, and the rest left
+pub written-front : (out w : List ℕ) → written out 0 w ≡ w ++ drop (length w) out
+unfolding written
+written-front out w = rw zero-add
+
+-- two words, one after the other
+pub written-append : (out : List ℕ) (at : ℕ) (w v : List ℕ) → at ≤ length out → written out at (w ++ v) ≡ written (written out at w) (at + length w) v
+unfolding written
+written-append out at w v h =
+    let n = at + length w in
+    let front : length (take at out ++ w) ≡ n = simp (length-append, length-take-le at out h) in
+    let split : written out at w ≡ (take at out ++ w) ++ drop n out = sym (append-assoc (take at out) w (drop n out)) in
+    let first : take n (written out at w) ≡ take at out ++ w = ap (take n) split ∙ take-at (take at out ++ w) (drop n out) n front in
+    let rest : drop n (written out at w) ≡ drop n out = ap (drop n) split ∙ drop-at (take at out ++ w) (drop n out) n front in
+    let far : drop (n + length v) (written out at w) ≡ drop (n + length v) out =
+    sym (drop-drop (length v) n (written out at w)) ∙ (ap (drop (length v)) rest ∙ drop-drop (length v) n out) in
+    rw (first, far) (simp (length-append, append-assoc, add-assoc))
+
+pub set-written : (out : List ℕ) (at b : ℕ) → at < length out → set out at b ≡ written out at (b ∷ [])
+unfolding written
+set-written out at b h = rw add-one (set-split out at b h)
+
+-- one byte of a word, and what is left of it
+pub written-more :
+    (out word : List ℕ) (at i : ℕ) → i < length word → at + i < length out →
+    written (set out (at + i) (getD word i 0)) (at + (i + 1)) (drop (i + 1) word) ≡ written out (at + i) (drop i word)
+written-more out word at i h room =
+    let e : drop i word ≡ (getD word i 0 ∷ []) ++ drop (i + 1) word = rw add-one (drop-cons word i 0 h) in
+    rw (e, set-written out (at + i) (getD word i 0) room, ← add-assoc at i 1)
+    (sym (written-append out (at + i) (getD word i 0 ∷ []) (drop (i + 1) word) (omega arith)))
+
+-- one word, and then another
+pub then :
+    (out : List ℕ) (at : ℕ) (w v : List ℕ) {mid end : List ℕ} {p q : ℕ} → at ≤ length out →
+    Wrote out at w mid p → Wrote mid p v end q → Wrote out at (w ++ v) end q
+then out at w v h a b =
+    record {
+      place = simp length-append (omega (arith, a .place, b .place));
+      area = rw (b .area, a .area, a .place) (sym (written-append out at w v h));
+    }
