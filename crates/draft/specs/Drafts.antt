@@ -1,6 +1,6 @@
 -- A plan in the making: the jobs laid so far in plan order, as steps and as numbers.
 -- Assumes nothing.
-use mathlib.Core.Bool.{true, false}
+use mathlib.Core.Bool.{Bool, true, false, cond}
 use mathlib.Core.List.{List, [], map}
 use mathlib.Core.Option.{Option, none, some}
 use Rattle.model.specs.Timetable.{Chosen}
@@ -23,6 +23,9 @@ draftOf cs = record { plan = planOf (stepsFor cs); laid = laidOf cs }
 
 abbrev pub withChosen : Draft → Chosen → Draft
 withChosen d c = record { plan = withStep (d .plan) (stepOf c); laid = laidWith (d .laid) c }
+
+abbrev pub withIf : Draft → Bool → Chosen → Draft
+withIf d listed c = cond listed (withChosen d c) d
 
 -- what a planner finds: a plan in plan order, or none
 abbrev pub draftedOf : Option (List Chosen) → Drafted

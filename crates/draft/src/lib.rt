@@ -4,10 +4,11 @@ use model::Laid;
 use plan::Plan;
 use plan::Step;
 ghost use mathlib.Core.Path.{_≡_};
+ghost use mathlib.Core.Bool.{true};
 ghost use mathlib.Core.List.{[]};
 ghost use Prim.Native.Nat.{_≤_, _<_};
 ghost use Rattle.model.specs.Laying.{chosen};
-ghost use Rattle.draft.specs.Drafts.{draftOf, withChosen};
+ghost use Rattle.draft.specs.Drafts.{draftOf, withChosen, withIf};
 
 pub struct Draft {
     pub plan: Plan,
@@ -40,5 +41,17 @@ impl Draft {
         let plan = before.with_step(Step { id: job.id, away });
         let laid = behind.with(job, away);
         Draft { plan, laid }
+    }
+
+    // With one job more at its end, if it is listed.
+    pub fn with_if(self, listed: bool, job: Job, away: bool) -> Draft
+        requires { ⌜ (listed ≡ true → (self .plan .count < 32) × (self .laid .busy ≤ 4000000000)) ⌝ }
+        ensures { λ r. ⌜ r ≡ withIf self listed (chosen job away) ⌝ }
+    {
+        if listed {
+            self.with_job(job, away)
+        } else {
+            self
+        }
     }
 }

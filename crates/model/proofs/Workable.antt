@@ -28,7 +28,7 @@ fits-join : (D t : ℕ) (xs ys : List Chosen) → Fits D t xs → Fits D (t + to
 fits-join D t [] ys f g = rw add-zero at g
 fits-join D t (x ∷ xs) ys f g = (f .0, fits-join D (t + span x) xs ys (f .1) (subst (λ (u : ℕ). Fits D u ys) (sym (add-assoc t (span x) (total span xs))) g))
 
-filter-append : (f : Chosen → Bool) (xs ys : List Chosen) → filter f (xs ++ ys) ≡ filter f xs ++ filter f ys
+pub filter-append : (f : Chosen → Bool) (xs ys : List Chosen) → filter f (xs ++ ys) ≡ filter f xs ++ filter f ys
 filter-append f [] ys = refl
 filter-append f (x ∷ xs) ys = step (f x) (filter-append f xs ys)
   where
