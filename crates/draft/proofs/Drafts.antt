@@ -57,7 +57,7 @@ module _ {A : Type 0} where
       step true h = omega arith
       step false h = h
 
-spans-short : (cs : List Chosen) → All (λ (c : Chosen). span c ≤ largestTime) cs → busy cs ≤ largestTime * length cs
+pub spans-short : (cs : List Chosen) → All (λ (c : Chosen). span c ≤ largestTime) cs → busy cs ≤ largestTime * length cs
 spans-short [] a = omega arith
 spans-short (c ∷ cs) a = omega (arith, a .0, spans-short cs (a .1))
 

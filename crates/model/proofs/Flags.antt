@@ -67,7 +67,7 @@ marked-read (i ∷ is) (b ∷ bs) fs e d h =
     marked-read is bs (set fs i b) (omega arith) (d .1) (all-map (λ (k : ℕ) (l : k < length fs). lt-length-set fs i b l) is (h .1)) in
     cc
 
-choose-jobs : (js : List Job) (fs : List Bool) → map (λ (c : Chosen). c .job) (choose js fs) ≡ js
+pub choose-jobs : (js : List Job) (fs : List Bool) → map (λ (c : Chosen). c .job) (choose js fs) ≡ js
 choose-jobs [] fs = refl
 choose-jobs (j ∷ js) [] = ap (λ (l : List Job). j ∷ l) (choose-jobs js [])
 choose-jobs (j ∷ js) (f ∷ fs) = ap (λ (l : List Job). j ∷ l) (choose-jobs js fs)

@@ -1,18 +1,20 @@
 -- Every accepted table is good: at most 32 jobs with distinct ids, times up to 4,000, and a deadline from 1 to 4,000.
 -- What is accepted is a frame record and an accepted list of jobs (`Read`), and proofs/Written.antt goes by that too. Assumes nothing.
-use Prim.Native.Nat.{ℕ, suc, _≤_}
+use Prim.Native.Nat.{ℕ, suc, _≤_, _-_}
 use native.Mathlib.Omega.{arith}
-use mathlib.Core.Path.{_≡_}
+use mathlib.Core.Path.{_≡_, refl}
 use mathlib.Core.List.{List, [], _∷_}
-use lib.ListN.{length, getD}
+use lib.ListN.{length, getD, replicate}
+use lib.Seq.{take-at}
 use Rattle.model.specs.declared.Job.{Job}
 use Rattle.model.specs.Lists.{All}
+use Rattle.model.specs.Positions.{noJob}
 use Rattle.model.proofs.Lists.{clash, all-append}
 use Rattle.table.specs.declared.FrameRead.{FrameRead}
 use Rattle.table.specs.Limits.{mostJobs, largestTime}
 use Rattle.table.specs.Refusals.{Outcome, accepted, refused}
 use Rattle.table.specs.Records.{wordAt, one}
-use Rattle.table.specs.Tables.{JobTable, TimesOk, GoodTable, jobId, jobsRead, withDeadline, afterFrame, readTable}
+use Rattle.table.specs.Tables.{JobTable, TimesOk, GoodTable, jobId, jobsRead, withDeadline, afterFrame, readTable, Sound, jobTable, tableOf}
 use Rattle.table.proofs.Listed.{listed-all, listed-good}
 use Rattle.table.proofs.Tables.{frame-all, rowEntry, RowIs, row-here, row-either, row-is, row-few}
 
@@ -56,3 +58,10 @@ accepted-good s t e =
     (λ js at p ok x end. ok)
     (suc mostJobs) [] 3 tt (t .jobs) (r .jobs) in
     record { few = g .0; distinct = g .1; times = times; low = r .low; high = r .high }
+
+-- what the code holds of it reads as the same table, and is sound
+pub held-table : (t : JobTable) → jobTable (tableOf (t .deadline) (t .jobs)) ≡ t
+held-table t = let e = take-at (t .jobs) (replicate (mostJobs - length (t .jobs)) noJob) (length (t .jobs)) refl in λ i. record { deadline = t .deadline; jobs = e i }
+
+pub held-sound : (t : JobTable) → GoodTable t → Sound (tableOf (t .deadline) (t .jobs))
+held-sound t g = record { few = g .few; good = rw held-table g }

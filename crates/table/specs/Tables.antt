@@ -4,7 +4,7 @@ use Prim.Native.Nat.{ℕ, suc, _+_, _-_, _%_, _/_, _≤_}
 use mathlib.Core.Path.{_≡_}
 use mathlib.Core.Bool.{Bool, cond, _&&_}
 use mathlib.Core.List.{List, [], _∷_, _++_}
-use lib.ListN.{length, getD, replicate}
+use lib.ListN.{length, getD, take, replicate}
 use lib.Dec.{ltb, leb}
 use Rattle.model.specs.declared.Sending.{Sending}
 use Rattle.model.specs.declared.Sending.the-variants.{HereOnly, Either}
@@ -113,6 +113,15 @@ tableOf D js = record { deadline = D; count = length js; jobs = js ++ replicate 
 
 abbrev pub emptyTable : Table
 emptyTable = tableOf 0 []
+
+-- and read again as a deadline and jobs
+abbrev pub jobTable : Table → JobTable
+jobTable t = record { deadline = t .deadline; jobs = take (t .count) (t .jobs) }
+
+-- a table that the reader may have accepted
+pub record Sound (t : Table) : Type 0 where
+  pub few : t .count ≤ mostJobs
+  pub good : GoodTable (jobTable t)
 
 -- what `read_table` answers: the verdict, and the table, which is the empty one with a refusal
 abbrev pub tableRead : Outcome JobTable → TableRead

@@ -1,0 +1,65 @@
+-- The jobs in away order are those at the positions in away order; there are no more of them than jobs, and each position is one of the table.
+-- Assumes nothing.
+use mathlib.Core.Path.{_≡_, refl, sym, ap, _∙_}
+use mathlib.Core.Bool.{Bool, not}
+use mathlib.Core.List.{List, [], _∷_, _++_, map}
+use Prim.Native.Nat.{ℕ, zero, suc, _≤_, _<_}
+use native.Mathlib.Omega.{arith}
+use lib.ListN.{length, getD, replicate, length-map}
+use Rattle.model.specs.declared.Job.{Job}
+use Rattle.model.specs.Lists.{All, filter, total, falling}
+use Rattle.model.specs.Timetable.{isEither, returnTime}
+use Rattle.model.specs.Recurrence.{orderOf}
+use Rattle.model.specs.Positions.{countFrom, noJob, canGoAt, places}
+use Rattle.model.proofs.Permutations.{total-perm, total-append, perm-falling, perm-split}
+use Rattle.model.proofs.Sorts.{map-filter, map-falling}
+use Rattle.model.proofs.Places.{places-below}
+use Rattle.order.proofs.Inserted.{padded}
+use Rattle.choice.specs.Choices.{jobsAt}
+
+module _ {A : Type 0} where
+  count-further : (f : ℕ → A) (k n : ℕ) → map f (countFrom (suc k) n) ≡ map (λ (i : ℕ). f (suc i)) (countFrom k n)
+  count-further f k zero = refl
+  count-further f k (suc n) = ap (λ (l : List A). f (suc k) ∷ l) (count-further f (suc k) n)
+
+  -- a list is its elements by position
+  each-at : (xs : List A) (d : A) → map (λ (i : ℕ). getD xs i d) (countFrom 0 (length xs)) ≡ xs
+  each-at [] d = refl
+  each-at (x ∷ xs) d = ap (λ (l : List A). x ∷ l) (count-further (λ (i : ℕ). getD (x ∷ xs) i d) 0 (length xs) ∙ each-at xs d)
+
+  all-at : (P : A → Type 0) (xs : List A) (d : A) → All P xs → (k : ℕ) → k < length xs → P (getD xs k d)
+  all-at P [] d a k h = absurd (omega arith)
+  all-at P (x ∷ xs) d a zero h = a .0
+  all-at P (x ∷ xs) d a (suc k) h = all-at P xs d (a .1) k (omega arith)
+
+  abbrev one : A → ℕ
+  one x = 1
+
+  ones : (xs : List A) → length xs ≡ total one xs
+  ones [] = refl
+  ones (x ∷ xs) = omega (arith, ones xs)
+
+  -- a sort of what passes a test is no longer than the whole
+  sorted-few : (key : A → ℕ) (f : A → Bool) (xs : List A) → length (falling key (filter f xs)) ≤ length xs
+  sorted-few key f xs =
+      omega (arith, ones (falling key (filter f xs)), ones xs, total-perm one (perm-falling key (filter f xs)), total-perm one (perm-split f xs), total-append one (filter f xs) (filter (λ (x : A). not (f x)) xs))
+
+-- the jobs in away order are those at the positions in away order
+pub order-jobs : (js : List Job) → orderOf js ≡ jobsAt js (places js)
+order-jobs js =
+    sym
+    (map-falling at returnTime (filter (canGoAt js) (countFrom 0 (length js)))
+    ∙ ap (falling returnTime) (map-filter at isEither (countFrom 0 (length js)) ∙ ap (filter isEither) (each-at js noJob)))
+  where
+    at : ℕ → Job
+    at i = getD js i noJob
+
+pub as-many : (js : List Job) → length (orderOf js) ≡ length (places js)
+as-many js = ap length (order-jobs js) ∙ length-map (places js) (λ (i : ℕ). getD js i noJob)
+
+pub places-few : (js : List Job) → length (places js) ≤ length js
+places-few js = omega (arith, as-many js, sorted-few returnTime isEither js)
+
+-- a position that is held is one of the table
+pub place-below : (js : List Job) (n k : ℕ) → k < length (places js) → getD (places js ++ replicate n 0) k 0 < length js
+place-below js n k h = rw padded (all-at (λ (i : ℕ). i < length js) (places js) 0 (places-below js) k h)

@@ -1,0 +1,5 @@
+pub mod AwayJobs
+pub mod Preparing
+pub mod Held
+pub mod Loops
+pub mod Answers
