@@ -1,3 +1,5 @@
 pub mod Reading
 pub mod Finishing
 pub mod Orders
+pub mod Settled
+pub mod WrittenPlans

@@ -1,0 +1,135 @@
+-- Two answers and areas that a planner's contract allows coincide: the contract settles the call.
+-- Assumes nothing.
+use mathlib.Core.Path.{_≡_, refl, sym, ap, _∙_}
+use mathlib.Core.List.{List, [], _∷_}
+use Prim.Native.Nat.{ℕ, _≤_, _<_}
+use native.Mathlib.Omega.{arith}
+use lib.ListN.{length}
+use Rattle.model.specs.declared.Job.{Job}
+use Rattle.model.specs.Timetable.{Chosen, Met}
+use Rattle.model.specs.FreeOrder.{LeastDeadline, plan}
+use Rattle.model.specs.GivenOrder.{MetInOrder, BestInOrder}
+use Rattle.model.proofs.Lists.{clash}
+use Rattle.model.proofs.Timetables.{timetable-iff-workable}
+use Rattle.model.proofs.Best.{best-unique}
+use Rattle.model.proofs.GivenOrder.{best-in-order-iff, best-in-order-unique}
+use Rattle.model.proofs.LeastDeadline.{least-unique, met-mono}
+use Rattle.table.specs.declared.refusal.Refusal.{Refusal}
+use Rattle.table.specs.declared.refusal.Refusal.the-variants.{Short, Kind, Range, Many, Twice, After, None, Stranger, Kept, Left, Late, Phase, Number, Clock, Who, Value, Early, Room}
+use Rattle.table.specs.Limits.{largestTime}
+use Rattle.table.specs.Refusals.{refusalSays, accepted, refused}
+use Rattle.table.specs.Tables.{JobTable, readTable}
+use Rattle.table.proofs.Refusals.{says-injective}
+use Rattle.planner.specs.declared.Planned.{Planned}
+use Rattle.planner.specs.declared.Planned.the-variants.{PlanWritten, NotPlanned}
+use Rattle.planner.specs.declared.Least.{Least}
+use Rattle.planner.specs.declared.Least.the-variants.{DeadlineIs, NoDeadline}
+use Rattle.planner.specs.Answers.{plannedSays, leastSays, Refuses, Writes, PlanAnswer, no-room, bad-table, no-plan, planned, BestPlan, FreeAnswer, GivenAnswer, LeastAnswer, never-met, met-from}
+
+-- no refusal says 0, so what is said tells the answer
+not-zero : (f : Refusal) (ns : List ℕ) → refusalSays f ≡ 0 ∷ ns → ⊥
+not-zero (Short p) ns e = clash (cc)
+not-zero (Kind p) ns e = clash (cc)
+not-zero (Range p) ns e = clash (cc)
+not-zero (Many p) ns e = clash (cc)
+not-zero (Twice p) ns e = clash (cc)
+not-zero (After p) ns e = clash (cc)
+not-zero None ns e = clash (cc)
+not-zero Stranger ns e = clash (cc)
+not-zero Kept ns e = clash (cc)
+not-zero Left ns e = clash (cc)
+not-zero Late ns e = clash (cc)
+not-zero Phase ns e = clash (cc)
+not-zero Number ns e = clash (cc)
+not-zero Clock ns e = clash (cc)
+not-zero Who ns e = clash (cc)
+not-zero Value ns e = clash (cc)
+not-zero Early ns e = clash (cc)
+not-zero Room ns e = clash (cc)
+
+pub planned-says-injective : (r q : Planned) → plannedSays r ≡ plannedSays q → r ≡ q
+planned-says-injective (PlanWritten n b l) (PlanWritten m c k) e =
+    let x : n ≡ m = cc in
+    let y : b ≡ c = cc in
+    let z : l ≡ k = cc in
+    λ i. PlanWritten (x i) (y i) (z i)
+planned-says-injective (PlanWritten n b l) (NotPlanned g) e = absurd (not-zero g _ (sym e))
+planned-says-injective (NotPlanned f) (PlanWritten m c k) e = absurd (not-zero f _ e)
+planned-says-injective (NotPlanned f) (NotPlanned g) e = ap NotPlanned (says-injective f g e)
+
+pub least-says-injective : (r q : Least) → leastSays r ≡ leastSays q → r ≡ q
+least-says-injective (DeadlineIs d) (DeadlineIs e) h = let x : d ≡ e = cc in ap DeadlineIs x
+least-says-injective (DeadlineIs d) (NoDeadline g) h = absurd (not-zero g _ (sym h))
+least-says-injective (NoDeadline f) (DeadlineIs e) h = absurd (not-zero f _ h)
+least-says-injective (NoDeadline f) (NoDeadline g) h = ap NoDeadline (says-injective f g h)
+
+-- the same answer, and the same area afterwards
+abbrev pub Same : Planned → List ℕ → Planned → List ℕ → Type 0
+Same r a q b = (r ≡ q) × (a ≡ b)
+
+module _ (s before : List ℕ) (r : Planned) (a : List ℕ) (q : Planned) (b : List ℕ) where
+  both-refuse : (f g : Refusal) → f ≡ g → Refuses f before r a → Refuses g before q b → Same r a q b
+  both-refuse f g e h k = (planned-says-injective r q (h .says ∙ (ap refusalSays e ∙ sym (k .says))), h .left ∙ sym (k .left))
+
+  both-write : (xs ys : List Chosen) → xs ≡ ys → Writes xs before r a → Writes ys before q b → Same r a q b
+  both-write xs ys e h k = (planned-says-injective r q (h .says ∙ (rw e (sym (k .says)))), h .front ∙ (rw e (sym (k .front))))
+
+  same-table : (t u : JobTable) → readTable s ≡ accepted t → readTable s ≡ accepted u → t ≡ u
+  same-table t u e h = cc
+
+  module _
+      (CanMeet : ℕ → List Job → Type 0)
+      (IsPlan : ℕ → List Job → List Chosen → Type 0)
+      (possible : (D : ℕ) (js : List Job) (xs : List Chosen) → IsPlan D js xs → CanMeet D js)
+      (unique : (D : ℕ) (js : List Job) (xs ys : List Chosen) → IsPlan D js xs → IsPlan D js ys → xs ≡ ys)
+    where
+      planner-settled : PlanAnswer CanMeet IsPlan s before r a → PlanAnswer CanMeet IsPlan s before q b → Same r a q b
+      planner-settled (no-room l h) (no-room m k) = both-refuse Room Room refl h k
+      planner-settled (no-room l h) (bad-table m g e k) = absurd (omega arith)
+      planner-settled (no-room l h) (no-plan m t e n k) = absurd (omega arith)
+      planner-settled (no-room l h) (planned m t e ys p k) = absurd (omega arith)
+      planner-settled (bad-table l f d h) (no-room m k) = absurd (omega arith)
+      planner-settled (bad-table l f d h) (bad-table m g e k) = let x : f ≡ g = cc in both-refuse f g x h k
+      planner-settled (bad-table l f d h) (no-plan m t e n k) = clash (cc)
+      planner-settled (bad-table l f d h) (planned m t e ys p k) = clash (cc)
+      planner-settled (no-plan l t d n h) (no-room m k) = absurd (omega arith)
+      planner-settled (no-plan l t d n h) (bad-table m g e k) = clash (cc)
+      planner-settled (no-plan l t d n h) (no-plan m u e o k) = both-refuse None None refl h k
+      planner-settled (no-plan l t d n h) (planned m u e ys p k) = absurd (n (rw (same-table t u d e) (possible (u .deadline) (u .jobs) ys p)))
+      planner-settled (planned l t d xs p h) (no-room m k) = absurd (omega arith)
+      planner-settled (planned l t d xs p h) (bad-table m g e k) = clash (cc)
+      planner-settled (planned l t d xs p h) (no-plan m u e n k) = absurd (n (rw (same-table u t e d) (possible (t .deadline) (t .jobs) xs p)))
+      planner-settled (planned l t d xs p h) (planned m u e ys o k) = both-write xs ys (unique (u .deadline) (u .jobs) xs ys (rw (same-table t u d e) at p) o) h k
+
+  best-meets : (D : ℕ) (js : List Job) (xs : List Chosen) → BestPlan D js xs → Met D js
+  best-meets D js xs p = timetable-iff-workable D js .1 (p .0, p .1 .choice, p .1 .workable)
+
+  one-best : (D : ℕ) (js : List Job) (xs ys : List Chosen) → BestPlan D js xs → BestPlan D js ys → xs ≡ ys
+  one-best D js xs ys p o = p .2 ∙ (ap plan (best-unique D js (p .0) (o .0) (p .1) (o .1)) ∙ sym (o .2))
+
+  pub free-settled : FreeAnswer s before r a → FreeAnswer s before q b → Same r a q b
+  free-settled = planner-settled Met BestPlan best-meets one-best
+
+  pub given-settled : GivenAnswer s before r a → GivenAnswer s before q b → Same r a q b
+  given-settled = planner-settled MetInOrder BestInOrder (λ D js xs p. best-in-order-iff D js .0 (xs, p)) best-in-order-unique
+
+pub least-settled : (s : List ℕ) (r q : Least) → LeastAnswer s r → LeastAnswer s q → r ≡ q
+least-settled s r q x y = least-says-injective r q (says x y)
+  where
+    says : LeastAnswer s r → LeastAnswer s q → leastSays r ≡ leastSays q
+    says (bad-table f d h) (bad-table g e k) = let x : f ≡ g = cc in h ∙ (ap refusalSays x ∙ sym k)
+    says (bad-table f d h) (never-met t e n k) = clash (cc)
+    says (bad-table f d h) (met-from t e m l k) = clash (cc)
+    says (never-met t d n h) (bad-table g e k) = clash (cc)
+    says (never-met t d n h) (never-met u e o k) = h ∙ sym k
+    says (never-met t d n h) (met-from u e m l k) =
+        let same : t ≡ u = cc in
+        absurd (n (rw same (met-mono (u .jobs) m largestTime (l .high) (l .met))))
+    says (met-from t d m l h) (bad-table g e k) = clash (cc)
+    says (met-from t d m l h) (never-met u e n k) =
+        let same : u ≡ t = cc in
+        absurd (n (rw same (met-mono (t .jobs) m largestTime (l .high) (l .met))))
+    says (met-from t d m l h) (met-from u e n o k) =
+        let same : t ≡ u = cc in
+        let x : m ≡ n = least-unique (u .jobs) largestTime m n (rw same at l) o in
+        h ∙ (rw x (sym k))
