@@ -1,0 +1,43 @@
+/* Zhiblator for C and Rust: the proved planners over plain bytes.
+ *
+ * Build the library with `rt staticlib panel` (target/staticlib/libpanel.a). Every table and every area gets an answer:
+ * `number` is 0 for an accepted call, else the refusal's number of document 01 (1 to 18); `place` is the offset of the
+ * refused record for 1 to 6 and 0 otherwise. With a refusal the other fields are 0 and the area is as it was.
+ * Times are ticks of 1 ms. The functions keep nothing between calls.
+ */
+#ifndef ZHIBLATOR_H
+#define ZHIBLATOR_H
+
+#include <stddef.h>
+#include <stdint.h>
+
+#ifdef __cplusplus
+extern "C" {
+#endif
+
+/* The longest plan: areas must have room for it. */
+#define ZB_LONGEST_PLAN 65
+
+/* `length` bytes of plan at the front of the area; `busy` is the sum of the plan's spans, `last` its latest finish. */
+struct zb_planned {
+    uint64_t number, place, length, busy, last;
+};
+
+struct zb_least {
+    uint64_t number, place, deadline;
+};
+
+/* The free-order plan: of all choices that meet the deadline, the one that keeps the panel busy for the least time. */
+struct zb_planned zb_plan_free(const uint8_t *table, size_t table_len, uint8_t *area, size_t area_len);
+
+/* The given-order plan: the jobs in table order. */
+struct zb_planned zb_plan_given(const uint8_t *table, size_t table_len, uint8_t *area, size_t area_len);
+
+/* The least deadline from 1 to 4,000 that some timetable meets; the table's own deadline is ignored. */
+struct zb_least zb_least_deadline(const uint8_t *table, size_t table_len);
+
+#ifdef __cplusplus
+}
+#endif
+
+#endif
