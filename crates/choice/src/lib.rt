@@ -11,15 +11,15 @@ ghost use Rattle.model.specs.declared.Job.{Job};
 ghost use Rattle.model.specs.Timetable.{Met};
 ghost use Rattle.model.specs.Recurrence.{answer, base};
 ghost use Rattle.model.specs.Positions.{noJob};
-ghost use Rattle.table.specs.Limits.{mostJobs, largestTime};
+ghost use Rattle.table.specs.Limits.{largestTime, mostJobs};
 ghost use Rattle.table.specs.Tables.{jobTable, Sound};
 ghost use Rattle.choice.specs.Choices.{preparedOf, Ready, flagsOf, foundOf, IsEarliest, hereTime, jobsAt, Tells};
 
 // The either jobs in away order and their positions in the table, and the local times of the here-only jobs in all.
 pub struct Prepared {
     pub count: usize,
-    pub places: [usize; 32],
-    pub jobs: [Job; 32],
+    pub places: [usize; Table::MOST_JOBS],
+    pub jobs: [Job; Table::MOST_JOBS],
     pub base: u32,
 }
 
@@ -48,7 +48,7 @@ fn here_time(job: Job) -> u32
 }
 
 // The local times of the here-only jobs in all.
-fn base_of(jobs: [Job; 32], count: usize) -> u32
+fn base_of(jobs: [Job; Table::MOST_JOBS], count: usize) -> u32
     requires { ⌜ count ≤ mostJobs ⌝ }
     ensures { λ r. ⌜ r ≡ base (take count jobs) ⌝ }
 {
@@ -60,7 +60,11 @@ fn base_of(jobs: [Job; 32], count: usize) -> u32
 }
 
 // The jobs at the first `count` positions; the entries that none has hold a job of no time.
-fn jobs_at(jobs: [Job; 32], places: [usize; 32], count: usize) -> [Job; 32]
+fn jobs_at(
+    jobs: [Job; Table::MOST_JOBS],
+    places: [usize; Table::MOST_JOBS],
+    count: usize,
+) -> [Job; Table::MOST_JOBS]
     requires { ⌜ (count ≤ mostJobs) × ((k : ℕ) → k < count → getD places k 0 < mostJobs) ⌝ }
     ensures { λ r. ⌜ r ≡ jobsAt jobs (take count places) ++ replicate (mostJobs - count) noJob ⌝ }
 {
@@ -69,7 +73,7 @@ fn jobs_at(jobs: [Job; 32], places: [usize; 32], count: usize) -> [Job; 32]
         local: 0,
         sending: Sending::HereOnly,
     };
-    let mut ordered = [none; 32];
+    let mut ordered = [none; Table::MOST_JOBS];
     for k in 0..count {
         let place = places[k];
         ordered[k] = jobs[place];
@@ -108,13 +112,13 @@ pub fn best_choice(d: u16, p: Prepared) -> Found
 }
 
 // A flag for each position of the table: whether the choice that the mask stands for has the job there away.
-pub fn flags_of(p: Prepared, mask: u32) -> [bool; 32]
+pub fn flags_of(p: Prepared, mask: u32) -> [bool; Table::MOST_JOBS]
     requires { ⌜ Ready p ⌝ }
     ensures { λ r. ⌜ ((js : List Job) → p ≡ preparedOf js → r ≡ flagsOf js mask) ⌝ }
 {
     let count = p.count;
     let places = p.places;
-    let mut flags = [false; 32];
+    let mut flags = [false; Table::MOST_JOBS];
     let mut left = mask;
     for k in 0..count {
         let place = places[k];

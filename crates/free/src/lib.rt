@@ -21,7 +21,7 @@ ghost use Rattle.choice.specs.Choices.{SoundJobs, preparedOf, Ready};
 ghost use Rattle.free.specs.Parts.{inAwayOrder, HereRoom};
 
 // The jobs that are flagged away, in away order.
-fn away_part(p: Prepared, flags: [bool; 32]) -> Draft
+fn away_part(p: Prepared, flags: [bool; Table::MOST_JOBS]) -> Draft
     requires { ⌜ Ready p ⌝ }
     ensures { λ r. ⌜ ((js : List Job) → SoundJobs js → p ≡ preparedOf js → r ≡ draftOf (filter isAway (inAwayOrder js flags))) ⌝ }
 {
@@ -37,7 +37,12 @@ fn away_part(p: Prepared, flags: [bool; 32]) -> Draft
 }
 
 // Behind them the jobs that are not, in table order.
-fn here_part(front: Draft, jobs: [Job; 32], count: usize, flags: [bool; 32]) -> Draft
+fn here_part(
+    front: Draft,
+    jobs: [Job; Table::MOST_JOBS],
+    count: usize,
+    flags: [bool; Table::MOST_JOBS],
+) -> Draft
     requires { ⌜ (count ≤ mostJobs) × HereRoom front (choose (take count jobs) flags) ⌝ }
     ensures { λ r. ⌜ ((cs : List Chosen) → HereRoom front (choose (take count jobs) flags) → front ≡ draftOf cs → r ≡ draftOf (cs ++ filter here (choose (take count jobs) flags))) ⌝ }
 {

@@ -8,6 +8,7 @@ ghost use mathlib.Core.Path.{_≡_};
 ghost use Prim.Native.Nat.{_≤_};
 ghost use lib.ListN.{take};
 ghost use Rattle.model.specs.GivenOrder.{goes, decide, given};
+ghost use Rattle.table.specs.Limits.{mostJobs};
 ghost use Rattle.draft.specs.Drafts.{draftedOf};
 ghost use Rattle.given.specs.Given.{decisionOf};
 
@@ -56,7 +57,7 @@ fn decided(d: u32, t: u32, job: Job) -> Decision
 
 // The plan in table order, if there is one.
 pub fn given_plan(t: Table) -> Drafted
-    requires { ⌜ t .count ≤ 32 ⌝ }
+    requires { ⌜ t .count ≤ mostJobs ⌝ }
     ensures { λ r. ⌜ r ≡ draftedOf (given (t .deadline) 0 (take (t .count) (t .jobs))) ⌝ }
 {
     let d = t.deadline as u32;

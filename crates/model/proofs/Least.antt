@@ -19,9 +19,6 @@ lex-trans a m b n c o (inl h) (inr k) = inl (omega (arith, k .0))
 lex-trans a m b n c o (inr h) (inl k) = inl (omega (arith, h .0))
 lex-trans a m b n c o (inr h) (inr k) = inr (omega (arith, h, k))
 
-pub lex-refl : (a m : ℕ) → LexLe a m a m
-lex-refl a m = inr (refl, omega arith)
-
 -- the cell holds the least pair of P, or P has none
 abbrev pub IsLeast : (ℕ → ℕ → Type 0) → Cell → Type 0
 IsLeast P empty = (a m : ℕ) → P a m → ⊥

@@ -9,6 +9,7 @@ ghost use mathlib.Core.Path.{_≡_};
 ghost use mathlib.Core.List.{[], _++_};
 ghost use Prim.Native.Nat.{_+_, _<_, _≤_};
 ghost use lib.ListN.{length, drop};
+ghost use Rattle.table.specs.Limits.{mostJobs, longestPlan};
 ghost use Rattle.text.specs.Writing.{Wrote};
 ghost use Rattle.plan.specs.Plans.{listedAt, recordAt, refusalOf, endedAt, readPlan, planRead, stepBytes, planBytes, stepAt, planOf, withStep, stepsOf};
 
@@ -53,7 +54,7 @@ impl Plan {
 
     // The plan with one more step at its end.
     pub fn with_step(mut self, step: Step) -> Plan
-        requires { ⌜ self .count < 32 ⌝ }
+        requires { ⌜ self .count < mostJobs ⌝ }
         ensures { λ r. ⌜ r ≡ withStep self step ⌝ }
     {
         let n = self.count;
@@ -174,7 +175,7 @@ fn put_step(area: &mut [u8], at: usize, step: Step) -> usize
 
 // Writes the plan at the front of the area, leaves the rest, and returns how many bytes it wrote.
 pub fn write_plan(area: &mut [u8], plan: Plan) -> usize
-    requires { ⌜ (plan .count ≤ 32) × (65 ≤ length (now area)) ⌝ }
+    requires { ⌜ (plan .count ≤ mostJobs) × (longestPlan ≤ length (now area)) ⌝ }
     ensures { λ r. ⌜ (r ≡ length (planBytes (stepsOf plan))) × (now (area .exit) ≡ planBytes (stepsOf plan) ++ drop (length (planBytes (stepsOf plan))) (now (area .entry))) ⌝ }
 {
     let n = plan.count;

@@ -11,7 +11,7 @@ ghost use mathlib.Core.Option.{Option};
 ghost use Prim.Native.Nat.{_≤_};
 ghost use lib.ListN.{length};
 ghost use Rattle.model.specs.Timetable.{Chosen};
-ghost use Rattle.table.specs.Limits.{longestPlan};
+ghost use Rattle.table.specs.Limits.{longestPlan, mostJobs};
 ghost use Rattle.draft.specs.Drafts.{draftedOf};
 ghost use Rattle.planner.specs.Answers.{FreeAnswer, GivenAnswer, LeastAnswer, Finishes};
 
@@ -28,7 +28,7 @@ pub enum Least {
 
 // Writes the plan that was found, or refuses with NONE.
 fn finish(area: &mut [u8], made: Drafted) -> Planned
-    requires { ⌜ (longestPlan ≤ length (now area)) × (made .draft .plan .count ≤ 32) ⌝ }
+    requires { ⌜ (longestPlan ≤ length (now area)) × (made .draft .plan .count ≤ mostJobs) ⌝ }
     ensures { λ r. ⌜ ((o : Option (List Chosen)) → made ≡ draftedOf o → Finishes o (now (area .entry)) r (now (area .exit))) ⌝ }
 {
     if !made.found {

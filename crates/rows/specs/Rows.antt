@@ -4,6 +4,7 @@ use Prim.Native.Nat.{ℕ, _*_, _≤_}
 use mathlib.Core.List.{List}
 use lib.ListN.{take}
 use Rattle.model.specs.declared.Job.{Job}
+use Rattle.table.specs.Limits.{mostJobs, largestTime}
 use Rattle.model.specs.Lists.{All}
 
 -- a total of this or more stands for nothing
@@ -12,7 +13,7 @@ nothing = 1000000
 
 -- the rows have 4,001 columns, so the deadline is at most 4,000; so are the local times, of at most 32 jobs: no total reaches `nothing`
 pub record Ready (d base : ℕ) (jobs : List Job) (count : ℕ) : Type 0 where
-  pub deadline : d ≤ 4000
-  pub few : count ≤ 32
-  pub based : base ≤ 32 * 4000
-  pub locals : All (λ (j : Job). j .local ≤ 4000) (take count jobs)
+  pub deadline : d ≤ largestTime
+  pub few : count ≤ mostJobs
+  pub based : base ≤ mostJobs * largestTime
+  pub locals : All (λ (j : Job). j .local ≤ largestTime) (take count jobs)

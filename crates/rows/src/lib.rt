@@ -2,12 +2,14 @@
 // `least` gives the least busy total over all columns, and the mask of the choice that has it.
 use model::Job;
 use model::Sending;
+use table::Table;
 ghost use mathlib.Core.Path.{_≡_};
 ghost use mathlib.Core.List.{List, reverse};
 ghost use Prim.Native.Nat.{suc, _+_, _*_, _≤_, _<_};
 ghost use lib.ListN.{length, take};
 ghost use Rattle.model.specs.Recurrence.{Holds, bestBelow};
 ghost use Rattle.model.specs.Timetable.{setupTime, returnTime};
+ghost use Rattle.table.specs.Limits.{mostJobs, largestTime};
 ghost use Rattle.rows.specs.Rows.{nothing, Ready};
 ghost use Rattle.rows.specs.Columns.{Fit, Kept, Sent, RoomFor, Stepped, Rows, lower, Better};
 
@@ -28,7 +30,7 @@ struct Room {
 
 // The columns t with setup <= t and t + return <= d. A here-only job's times read as 0, as in the definitions; the planner gives none.
 fn room_for(d: usize, job: Job) -> Room
-    requires { ⌜ d ≤ 4000 ⌝ }
+    requires { ⌜ d ≤ largestTime ⌝ }
     ensures { λ r. ⌜ RoomFor d (setupTime job) (returnTime job) (r .setup) (r .end) ⌝ }
 {
     let sending = job.sending;
@@ -93,7 +95,7 @@ fn send(
 
 // One job more, in the columns 0..=d: kept here where it cannot be sent away, else kept or sent, whichever has the lower total.
 fn add_job(totals: &mut [u32; 4001], masks: &mut [u32; 4001], d: usize, job: Job, bit: u32)
-    requires { ⌜ (length (now totals) ≡ 4001) × (length (now masks) ≡ 4001) × (d ≤ 4000) × Fit (d + 1) (job .local) (now totals) × Fit (d + 1) bit (now masks) ⌝ }
+    requires { ⌜ (length (now totals) ≡ 4001) × (length (now masks) ≡ 4001) × (d ≤ largestTime) × Fit (d + 1) (job .local) (now totals) × Fit (d + 1) bit (now masks) ⌝ }
     ensures { λ r. ⌜ Stepped d job bit (now (totals .entry)) (now (masks .entry)) (now (totals .exit)) (now (masks .exit)) ⌝ }
 {
     let local = job.local as u32;
@@ -118,8 +120,8 @@ fn better(best: Choice, next: Choice) -> Choice
 
 // The best of all columns 0..=d, each with its setup total and `base` added.
 fn best(totals: &[u32; 4001], masks: &[u32; 4001], d: usize, base: u32) -> Choice
-    requires { ⌜ (length (now totals) ≡ 4001) × (length (now masks) ≡ 4001) × (d ≤ 4000) × (base ≤ 32 * 4000) × Fit (d + 1) (4000 + base) (now totals) ⌝ }
-    ensures { λ r. ⌜ ((os : List Job) → Rows d os (now (totals .entry)) (now (masks .entry)) → length os ≤ 32 → Holds nothing (r .total) (r .mask) (bestBelow d os base (suc d))) ⌝ }
+    requires { ⌜ (length (now totals) ≡ 4001) × (length (now masks) ≡ 4001) × (d ≤ largestTime) × (base ≤ mostJobs * largestTime) × Fit (d + 1) (largestTime + base) (now totals) ⌝ }
+    ensures { λ r. ⌜ ((os : List Job) → Rows d os (now (totals .entry)) (now (masks .entry)) → length os ≤ mostJobs → Holds nothing (r .total) (r .mask) (bestBelow d os base (suc d))) ⌝ }
 {
     let mut found = Choice {
         total: NOTHING,
@@ -136,7 +138,7 @@ fn best(totals: &[u32; 4001], masks: &[u32; 4001], d: usize, base: u32) -> Choic
 }
 
 // The least (busy total, mask) over all setup totals 0..=d of the `count` jobs in away order, `base` being what stays here in any case.
-pub fn least(d: usize, base: u32, jobs: [Job; 32], count: usize) -> Choice
+pub fn least(d: usize, base: u32, jobs: [Job; Table::MOST_JOBS], count: usize) -> Choice
     requires { ⌜ Ready d base jobs count ⌝ }
     ensures { λ r. ⌜ Holds nothing (r .total) (r .mask) (bestBelow d (reverse (take count jobs)) base (suc d)) ⌝ }
 {
