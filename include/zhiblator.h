@@ -1,4 +1,4 @@
-/* Zhiblator for C and Rust: the proved planners over plain bytes.
+/* Zhiblator for C and Rust: the proved planners and the plan check over plain bytes.
  *
  * Build the library with `rt staticlib panel` (target/staticlib/libpanel.a). Every table and every area gets an answer:
  * `number` is 0 for an accepted call, else the refusal's number of document 01 (1 to 18); `place` is the offset of the
@@ -27,6 +27,11 @@ struct zb_least {
     uint64_t number, place, deadline;
 };
 
+/* A plan that passes: the last finish and the busy total of its run at full entries. */
+struct zb_checked {
+    uint64_t number, place, last, busy;
+};
+
 /* The free-order plan: of all choices that meet the deadline, the one that keeps the panel busy for the least time. */
 struct zb_planned zb_plan_free(const uint8_t *table, size_t table_len, uint8_t *area, size_t area_len);
 
@@ -35,6 +40,9 @@ struct zb_planned zb_plan_given(const uint8_t *table, size_t table_len, uint8_t 
 
 /* The least deadline from 1 to 4,000 that some timetable meets; the table's own deadline is ignored. */
 struct zb_least zb_least_deadline(const uint8_t *table, size_t table_len);
+
+/* The plan check: any plan, from anybody's program, against its table. */
+struct zb_checked zb_check_plan(const uint8_t *table, size_t table_len, const uint8_t *plan, size_t plan_len);
 
 #ifdef __cplusplus
 }

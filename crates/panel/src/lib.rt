@@ -1,5 +1,6 @@
-// What C and Rust call: the planners with plain numbers for answers (include/zhiblator.h).
+// What C and Rust call: the planners and the plan check with plain numbers for answers (include/zhiblator.h).
 // `number` is 0 for an accepted call, else the refusal's number; a field that an answer does not have is 0.
+use judge::Checked;
 use planner::Least;
 use planner::Planned;
 use table::refusal::Place;
@@ -9,7 +10,8 @@ ghost use Rattle.table.specs.Refusals.{place};
 ghost use Rattle.planner.specs.declared.Planned.{Planned};
 ghost use Rattle.planner.specs.declared.Least.{Least};
 ghost use Rattle.planner.specs.Answers.{FreeAnswer, GivenAnswer, LeastAnswer};
-ghost use Rattle.panel.specs.Numbers.{refusedNumbers, placedNumbers, plannedNumbers, leastNumbers};
+ghost use Rattle.judge.specs.Check.{checkPlan};
+ghost use Rattle.panel.specs.Numbers.{refusedNumbers, placedNumbers, plannedNumbers, leastNumbers, checkedNumbers};
 
 #[repr(C)]
 pub struct RefusedNumbers {
@@ -31,6 +33,14 @@ pub struct LeastNumbers {
     pub number: u64,
     pub place: u64,
     pub deadline: u64,
+}
+
+#[repr(C)]
+pub struct CheckedNumbers {
+    pub number: u64,
+    pub place: u64,
+    pub last: u64,
+    pub busy: u64,
 }
 
 fn placed(number: u64, place: Place) -> RefusedNumbers
@@ -127,6 +137,29 @@ pub extern "C" fn zb_least_deadline(table: &[u8]) -> LeastNumbers
                 number: why.number,
                 place: why.place,
                 deadline: 0,
+            }
+        }
+    }
+}
+
+#[no_mangle]
+pub extern "C" fn zb_check_plan(table: &[u8], plan: &[u8]) -> CheckedNumbers
+    ensures { λ r. ⌜ r ≡ checkedNumbers (checkPlan (now (table .entry)) (now (plan .entry))) ⌝ }
+{
+    match judge::check_plan(table, plan) {
+        Checked::Passes { last, busy } => CheckedNumbers {
+            number: 0,
+            place: 0,
+            last: last as u64,
+            busy: busy as u64,
+        },
+        Checked::Fails(f) => {
+            let why = refused_numbers(f);
+            CheckedNumbers {
+                number: why.number,
+                place: why.place,
+                last: 0,
+                busy: 0,
             }
         }
     }

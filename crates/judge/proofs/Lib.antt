@@ -1,0 +1,5 @@
+pub mod Places
+pub mod Jobs
+pub mod Walk
+pub mod Runs
+pub mod Says
