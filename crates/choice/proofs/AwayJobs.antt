@@ -5,13 +5,14 @@ use mathlib.Core.Bool.{Bool, not}
 use mathlib.Core.List.{List, [], _∷_, _++_, map}
 use Prim.Native.Nat.{ℕ, zero, suc, _≤_, _<_}
 use native.Mathlib.Omega.{arith}
-use lib.ListN.{length, getD, replicate, length-map}
+use lib.ListN.{length, getD, replicate, length-map, length-append}
 use Rattle.model.specs.declared.Job.{Job}
 use Rattle.model.specs.Lists.{All, filter, total, falling}
 use Rattle.model.specs.Timetable.{isEither, returnTime}
 use Rattle.model.specs.Recurrence.{orderOf}
 use Rattle.model.specs.Positions.{countFrom, noJob, canGoAt, places}
-use Rattle.model.proofs.Permutations.{total-perm, total-append, perm-falling, perm-split}
+use Rattle.model.proofs.Lists.{all-at}
+use Rattle.model.proofs.Permutations.{length-perm, perm-falling, perm-split}
 use Rattle.model.proofs.Sorts.{map-filter, map-falling}
 use Rattle.model.proofs.Places.{places-below}
 use Rattle.order.proofs.Inserted.{padded}
@@ -27,22 +28,10 @@ module _ {A : Type 0} where
   each-at [] d = refl
   each-at (x ∷ xs) d = ap (λ (l : List A). x ∷ l) (count-further (λ (i : ℕ). getD (x ∷ xs) i d) 0 (length xs) ∙ each-at xs d)
 
-  all-at : (P : A → Type 0) (xs : List A) (d : A) → All P xs → (k : ℕ) → k < length xs → P (getD xs k d)
-  all-at P [] d a k h = absurd (omega arith)
-  all-at P (x ∷ xs) d a zero h = a .0
-  all-at P (x ∷ xs) d a (suc k) h = all-at P xs d (a .1) k (omega arith)
-
-  abbrev one : A → ℕ
-  one x = 1
-
-  ones : (xs : List A) → length xs ≡ total one xs
-  ones [] = refl
-  ones (x ∷ xs) = omega (arith, ones xs)
-
   -- a sort of what passes a test is no longer than the whole
   sorted-few : (key : A → ℕ) (f : A → Bool) (xs : List A) → length (falling key (filter f xs)) ≤ length xs
   sorted-few key f xs =
-      omega (arith, ones (falling key (filter f xs)), ones xs, total-perm one (perm-falling key (filter f xs)), total-perm one (perm-split f xs), total-append one (filter f xs) (filter (λ (x : A). not (f x)) xs))
+      omega (arith, length-perm (perm-falling key (filter f xs)), length-perm (perm-split f xs), length-append (filter f xs) (filter (λ (x : A). not (f x)) xs))
 
 -- the jobs in away order are those at the positions in away order
 pub order-jobs : (js : List Job) → orderOf js ≡ jobsAt js (places js)

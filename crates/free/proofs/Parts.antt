@@ -14,12 +14,12 @@ use Rattle.model.specs.FreeOrder.{Choice, awayOrder, isAway, plan, busy}
 use Rattle.model.specs.Recurrence.{orderOf}
 use Rattle.model.specs.Laying.{chosen}
 use Rattle.model.specs.Positions.{noJob, noChoice, places, choose}
-use Rattle.model.proofs.Lists.{all-map, map-all}
+use Rattle.model.proofs.Lists.{all-at, all-map, map-all}
 use Rattle.model.proofs.Places.{order-places, places-below}
 use Rattle.model.proofs.Flags.{choose-away, choose-jobs}
 use Rattle.table.specs.Limits.{mostJobs, largestTime}
 use Rattle.table.specs.Tables.{TimesOk}
-use Rattle.order.proofs.Ordered.{all-at, filter-length}
+use Rattle.order.proofs.Ordered.{filter-length}
 use Rattle.choice.specs.declared.Prepared.{Prepared}
 use Rattle.choice.specs.Choices.{SoundJobs, preparedOf, jobsAt}
 use Rattle.choice.proofs.AwayJobs.{order-jobs, places-few}

@@ -8,13 +8,13 @@ use Prim.Native.Nat.{ℕ, _+_, _≤_}
 use native.Mathlib.Omega.{arith}
 use lib.ListN.{length, length-append}
 use Rattle.model.specs.declared.Job.{Job}
-use Rattle.model.specs.Lists.{All, filter, total}
+use Rattle.model.specs.Lists.{All, filter}
 use Rattle.model.specs.Timetable.{Chosen, here, span}
 use Rattle.model.specs.FreeOrder.{Choice, awayOrder, isAway, plan, Best}
 use Rattle.model.specs.Recurrence.{Cell, empty, cell, answer}
 use Rattle.model.specs.Positions.{choose, choiceOf, planFound, free}
 use Rattle.model.proofs.Lists.{clash, all-filter}
-use Rattle.model.proofs.Permutations.{total-perm}
+use Rattle.model.proofs.Permutations.{length-perm}
 use Rattle.model.proofs.PlanOrder.{perm-plan}
 use Rattle.model.proofs.Places.{order-places}
 use Rattle.model.proofs.Free.{answer-choice}
@@ -28,13 +28,9 @@ use Rattle.draft.proofs.Drafts.{spans-short}
 use Rattle.free.specs.Parts.{inAwayOrder, HereRoom}
 use Rattle.free.proofs.Parts.{choose-short, choose-length, away-short}
 
-ones : {A : Type 0} (xs : List A) → total (λ (x : A). 1) xs ≡ length xs
-ones [] = refl
-ones (x ∷ xs) = omega (arith, ones xs)
-
 -- a plan has as many jobs as its choice
 pub plan-many : (cs : List Chosen) → (js : List Job) → Choice js cs → length (plan cs) ≡ length cs
-plan-many cs js c = sym (ones (plan cs)) ∙ (total-perm (λ (x : Chosen). 1) (perm-plan cs (c .allowed)) ∙ ones cs)
+plan-many cs js c = length-perm (perm-plan cs (c .allowed))
 
 module _ (js : List Job) (sound : SoundJobs js) (D : ℕ) where
   pub found-nothing : Nothing ≡ foundOf (answer D js) → _≡_ {A = Drafted} (record { found = false; draft = draftOf [] }) (draftedOf (free mostJobs D js))

@@ -3,9 +3,10 @@
 use mathlib.Core.Path.{_≡_}
 use mathlib.Core.Bool.{Bool, true, false, cond}
 use mathlib.Core.List.{List, [], _∷_, _++_, map}
-use Prim.Native.Nat.{ℕ}
+use Prim.Native.Nat.{ℕ, zero, suc, _<_}
 use native.Mathlib.Omega.{arith}
 use lib.Dec.{T}
+use lib.ListN.{length, getD}
 use Rattle.model.specs.Lists.{All, Pairwise, filter}
 
 -- two different constructors are not equal: `clash (cc)`
@@ -41,6 +42,11 @@ module _ {A : Type 0} where
       step : (b : Bool) → (T b → T (f x)) → All (λ (y : A). T (f y)) (filter f xs) → All (λ (y : A). T (f y)) (cond b (x ∷ filter f xs) (filter f xs))
       step true i r = (i tt, r)
       step false i r = r
+
+  pub all-at : (P : A → Type 0) (xs : List A) (d : A) → All P xs → (k : ℕ) → k < length xs → P (getD xs k d)
+  all-at P [] d a k h = absurd (omega arith)
+  all-at P (x ∷ xs) d a zero h = a .0
+  all-at P (x ∷ xs) d a (suc k) h = all-at P xs d (a .1) k (omega arith)
 
   pub pairwise-map : {R Q : A → A → Type 0} → ((x y : A) → R x y → Q x y) → (xs : List A) → Pairwise R xs → Pairwise Q xs
   pairwise-map f [] h = tt

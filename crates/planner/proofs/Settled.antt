@@ -15,52 +15,32 @@ use Rattle.model.proofs.Best.{best-unique}
 use Rattle.model.proofs.GivenOrder.{best-in-order-iff, best-in-order-unique}
 use Rattle.model.proofs.LeastDeadline.{least-unique, met-mono}
 use Rattle.table.specs.declared.refusal.Refusal.{Refusal}
-use Rattle.table.specs.declared.refusal.Refusal.the-variants.{Short, Kind, Range, Many, Twice, After, None, Stranger, Kept, Left, Late, Phase, Number, Clock, Who, Value, Early, Room}
+use Rattle.table.specs.declared.refusal.Refusal.the-variants.{None, Room}
 use Rattle.table.specs.Limits.{largestTime}
 use Rattle.table.specs.Refusals.{refusalSays, accepted, refused}
 use Rattle.table.specs.Tables.{JobTable, readTable}
-use Rattle.table.proofs.Refusals.{says-injective}
+use Rattle.table.proofs.Refusals.{says-injective, says-not-zero}
 use Rattle.planner.specs.declared.Planned.{Planned}
 use Rattle.planner.specs.declared.Planned.the-variants.{PlanWritten, NotPlanned}
 use Rattle.planner.specs.declared.Least.{Least}
 use Rattle.planner.specs.declared.Least.the-variants.{DeadlineIs, NoDeadline}
 use Rattle.planner.specs.Answers.{plannedSays, leastSays, Refuses, Writes, PlanAnswer, no-room, bad-table, no-plan, planned, BestPlan, FreeAnswer, GivenAnswer, LeastAnswer, never-met, met-from}
 
--- no refusal says 0, so what is said tells the answer
-not-zero : (f : Refusal) (ns : List ℕ) → refusalSays f ≡ 0 ∷ ns → ⊥
-not-zero (Short p) ns e = clash (cc)
-not-zero (Kind p) ns e = clash (cc)
-not-zero (Range p) ns e = clash (cc)
-not-zero (Many p) ns e = clash (cc)
-not-zero (Twice p) ns e = clash (cc)
-not-zero (After p) ns e = clash (cc)
-not-zero None ns e = clash (cc)
-not-zero Stranger ns e = clash (cc)
-not-zero Kept ns e = clash (cc)
-not-zero Left ns e = clash (cc)
-not-zero Late ns e = clash (cc)
-not-zero Phase ns e = clash (cc)
-not-zero Number ns e = clash (cc)
-not-zero Clock ns e = clash (cc)
-not-zero Who ns e = clash (cc)
-not-zero Value ns e = clash (cc)
-not-zero Early ns e = clash (cc)
-not-zero Room ns e = clash (cc)
-
+-- what is said tells the answer
 pub planned-says-injective : (r q : Planned) → plannedSays r ≡ plannedSays q → r ≡ q
 planned-says-injective (PlanWritten n b l) (PlanWritten m c k) e =
     let x : n ≡ m = cc in
     let y : b ≡ c = cc in
     let z : l ≡ k = cc in
     λ i. PlanWritten (x i) (y i) (z i)
-planned-says-injective (PlanWritten n b l) (NotPlanned g) e = absurd (not-zero g _ (sym e))
-planned-says-injective (NotPlanned f) (PlanWritten m c k) e = absurd (not-zero f _ e)
+planned-says-injective (PlanWritten n b l) (NotPlanned g) e = absurd (says-not-zero g _ (sym e))
+planned-says-injective (NotPlanned f) (PlanWritten m c k) e = absurd (says-not-zero f _ e)
 planned-says-injective (NotPlanned f) (NotPlanned g) e = ap NotPlanned (says-injective f g e)
 
 pub least-says-injective : (r q : Least) → leastSays r ≡ leastSays q → r ≡ q
 least-says-injective (DeadlineIs d) (DeadlineIs e) h = let x : d ≡ e = cc in ap DeadlineIs x
-least-says-injective (DeadlineIs d) (NoDeadline g) h = absurd (not-zero g _ (sym h))
-least-says-injective (NoDeadline f) (DeadlineIs e) h = absurd (not-zero f _ h)
+least-says-injective (DeadlineIs d) (NoDeadline g) h = absurd (says-not-zero g _ (sym h))
+least-says-injective (NoDeadline f) (DeadlineIs e) h = absurd (says-not-zero f _ h)
 least-says-injective (NoDeadline f) (NoDeadline g) h = ap NoDeadline (says-injective f g h)
 
 -- the same answer, and the same area afterwards

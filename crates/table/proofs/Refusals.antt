@@ -1,5 +1,7 @@
--- Two refusals that say the same numbers are equal: `named` finds the refusal again from what it says. Assumes nothing.
-use Prim.Native.Nat.{ℕ}
+-- Two refusals that say the same numbers are equal: `named` finds the refusal again from what it says.
+-- And none says what an accepted call says. Assumes nothing.
+use Prim.Native.Nat.{ℕ, _≤_}
+use native.Mathlib.Omega.{arith}
 use mathlib.Core.Path.{_≡_, refl, ap, sym, _∙_}
 use mathlib.Core.List.{List, [], _∷_}
 use lib.ListN.{getD}
@@ -40,3 +42,27 @@ named-says Room = refl
 
 pub says-injective : (f g : Refusal) → refusalSays f ≡ refusalSays g → f ≡ g
 says-injective f g e = sym (named-says f) ∙ (ap named e ∙ named-says g)
+
+-- refusals are numbered from 1, so none says what an accepted call says
+numbered : (f : Refusal) → 1 ≤ getD (refusalSays f) 0 0
+numbered (Short p) = omega arith
+numbered (Kind p) = omega arith
+numbered (Range p) = omega arith
+numbered (Many p) = omega arith
+numbered (Twice p) = omega arith
+numbered (After p) = omega arith
+numbered None = omega arith
+numbered Stranger = omega arith
+numbered Kept = omega arith
+numbered Left = omega arith
+numbered Late = omega arith
+numbered Phase = omega arith
+numbered Number = omega arith
+numbered Clock = omega arith
+numbered Who = omega arith
+numbered Value = omega arith
+numbered Early = omega arith
+numbered Room = omega arith
+
+pub says-not-zero : (f : Refusal) (ns : List ℕ) → refusalSays f ≡ 0 ∷ ns → ⊥
+says-not-zero f ns e = omega (arith, numbered f, ap (λ (l : List ℕ). getD l 0 0) e)
