@@ -1,0 +1,87 @@
+-- The marked cases hold: one proof for the list.
+-- Assumes nothing.
+use mathlib.Core.Path.{_≡_, refl}
+use mathlib.Core.Bool.{Bool, true, false}
+use mathlib.Core.List.{List, [], _∷_}
+use Prim.Native.Nat.{ℕ, _≤_}
+use native.Mathlib.Omega.{arith}
+use lib.ListN.{length, getD}
+use Rattle.model.specs.declared.Sending.the-variants.{HereOnly, Either}
+use Rattle.model.specs.declared.Job.{Job}
+use Rattle.model.specs.Timetable.{Chosen}
+use Rattle.table.specs.Records.{formOf, judged, used, listFrom}
+use Rattle.table.specs.Tables.{JobTable, frameAt, jobAt, jobsRead, readTable}
+use Rattle.plan.specs.Plans.{planBytes}
+use Rattle.marked.specs.Marked.{Holds, E, marked, AllHold}
+use Rattle.marked.proofs.Cases.{plan-case, none-case, given-case, least-case}
+
+abbrev ej : ℕ → ℕ → ℕ → ℕ → Job
+ej n c s i = record { id = n; local = c; sending = Either s i }
+
+abbrev hj : ℕ → ℕ → Job
+hj n c = record { id = n; local = c; sending = HereOnly }
+
+abbrev jt : ℕ → List Job → JobTable
+jt D js = record { deadline = D; jobs = js }
+
+abbrev sent : Job → Chosen
+sent j = record { job = j; away = true }
+
+abbrev kept : Job → Chosen
+kept j = record { job = j; away = false }
+
+-- the jobs of E, and of E turned
+abbrev e1 : Job
+e1 = ej 1 30 5 40
+
+abbrev e2 : Job
+e2 = ej 2 20 10 10
+
+abbrev e3 : Job
+e3 = hj 3 25
+
+abbrev planned : List Chosen
+planned = sent e1 ∷ sent e2 ∷ kept e3 ∷ []
+
+pub marked-hold : AllHold
+unfolding AllHold marked E readTable frameAt jobsRead jobAt judged formOf listFrom used planBytes
+marked-hold = (
+  plan-case _ (jt 45 (e1 ∷ e2 ∷ e3 ∷ [])) refl planned refl,
+  (
+    none-case _ (jt 44 (e1 ∷ e2 ∷ e3 ∷ [])) refl refl,
+    (
+      least-case _ (jt 45 (e1 ∷ e2 ∷ e3 ∷ [])) refl 44 (omega arith) planned refl (λ h. refl),
+      (
+        given-case _ (jt 45 (e3 ∷ e1 ∷ e2 ∷ [])) refl refl,
+        (
+          plan-case _ (jt 45 (e3 ∷ e1 ∷ e2 ∷ [])) refl planned refl,
+          (
+            plan-case _ (jt 20 (ej 1 10 10 0 ∷ ej 2 10 10 0 ∷ [])) refl (kept (ej 1 10 10 0) ∷ kept (ej 2 10 10 0) ∷ []) refl,
+            (
+              plan-case _ (jt 16 (ej 1 10 4 12 ∷ ej 2 10 4 12 ∷ [])) refl (sent (ej 1 10 4 12) ∷ kept (ej 2 10 4 12) ∷ []) refl,
+              (
+                none-case _ (jt 15 (ej 1 10 4 12 ∷ ej 2 10 4 12 ∷ [])) refl refl,
+                (
+                  plan-case _ (jt 40 (ej 1 50 10 10 ∷ ej 2 50 10 30 ∷ [])) refl (sent (ej 2 50 10 30) ∷ sent (ej 1 50 10 10) ∷ []) refl,
+                  (
+                    none-case _ (jt 39 (ej 1 50 10 10 ∷ ej 2 50 10 30 ∷ [])) refl refl,
+                    (
+                      plan-case _ (jt 1 []) refl [] refl,
+                      (
+                        least-case _ (jt 1 []) refl 0 (omega arith) [] refl (λ h. absurd (omega arith)),
+                        (
+                          refl,
+                          tt,
+                        ),
+                      ),
+                    ),
+                  ),
+                ),
+              ),
+            ),
+          ),
+        ),
+      ),
+    ),
+  ),
+)

@@ -1,0 +1,90 @@
+-- Document 01, 'Marked cases': each a table with what is claimed of it, told of whatever meets the contracts.
+-- Assumes nothing.
+use mathlib.Core.Path.{_≡_}
+use mathlib.Core.List.{List, [], _∷_, _++_}
+use Prim.Native.Nat.{ℕ, _≤_, _%_, _/_}
+use lib.ListN.{length, drop}
+use Rattle.model.specs.Lists.{All}
+use Rattle.table.specs.declared.refusal.Refusal.{Refusal}
+use Rattle.table.specs.declared.refusal.Refusal.the-variants.{Short, None}
+use Rattle.table.specs.Limits.{longestPlan}
+use Rattle.table.specs.Refusals.{place, refusalSays, refused}
+use Rattle.table.specs.Tables.{readTable}
+use Rattle.planner.specs.declared.Planned.{Planned}
+use Rattle.planner.specs.declared.Least.{Least}
+use Rattle.planner.specs.Answers.{plannedSays, leastSays, Refuses, FreeAnswer, GivenAnswer, LeastAnswer}
+
+-- what is claimed of a table: its free-order plan with busy total and last finish, no free-order plan, no given-order plan, its least deadline, a refusal in reading
+pub data Claim : Type 0 where
+  plan-is : List ℕ → (busy last : ℕ) → Claim
+  no-plan : Claim
+  no-given : Claim
+  least-is : ℕ → Claim
+  read-as : Refusal → Claim
+
+pub record Case : Type 0 where
+  pub table : List ℕ
+  pub claim : Claim
+
+-- what it means for a case to hold: every answer and area that the contract allows is the one claimed
+abbrev pub Claimed : List ℕ → Claim → Type 0
+Claimed s (plan-is p busy last) =
+    (before : List ℕ) (r : Planned) (after : List ℕ) → longestPlan ≤ length before → FreeAnswer s before r after
+    → (plannedSays r ≡ 0 ∷ length p ∷ busy ∷ last ∷ []) × (after ≡ p ++ drop (length p) before)
+Claimed s no-plan = (before : List ℕ) (r : Planned) (after : List ℕ) → longestPlan ≤ length before → FreeAnswer s before r after → Refuses None before r after
+Claimed s no-given = (before : List ℕ) (r : Planned) (after : List ℕ) → longestPlan ≤ length before → GivenAnswer s before r after → Refuses None before r after
+Claimed s (least-is d) = (r : Least) → LeastAnswer s r → leastSays r ≡ 0 ∷ d ∷ []
+Claimed s (read-as f) = readTable s ≡ refused f
+
+abbrev pub Holds : Case → Type 0
+Holds c = Claimed (c .table) (c .claim)
+
+-- The tables.
+
+abbrev pub word : ℕ → List ℕ
+word n = n % 256 ∷ n / 256 ∷ []
+
+abbrev pub either : ℕ → ℕ → ℕ → ℕ → List ℕ
+either id C S I = 0x12 ∷ id ∷ (word C ++ (word S ++ word I))
+
+abbrev pub stays : ℕ → ℕ → List ℕ
+stays id C = 0x11 ∷ id ∷ word C
+
+abbrev pub framed : ℕ → List ℕ → List ℕ
+framed D jobs = 0x10 ∷ (word D ++ (jobs ++ (0x1F ∷ [])))
+
+-- Table E, as bytes
+unfoldable pub E : List ℕ
+E = 0x10 ∷ 0x2D ∷ 0x00 ∷ 0x12 ∷ 0x01 ∷ 0x1E ∷ 0x00 ∷ 0x05 ∷ 0x00 ∷ 0x28 ∷ 0x00 ∷ 0x12 ∷ 0x02 ∷ 0x14 ∷ 0x00 ∷ 0x0A ∷ 0x00 ∷ 0x0A ∷ 0x00 ∷ 0x11 ∷ 0x03 ∷ 0x19 ∷ 0x00 ∷ 0x1F ∷ []
+
+-- the plan of 1
+abbrev pub planE : List ℕ
+planE = 0x21 ∷ 0x01 ∷ 0x21 ∷ 0x02 ∷ 0x20 ∷ 0x03 ∷ 0x2F ∷ []
+
+-- "E's jobs in order 3, 1, 2"
+abbrev pub turned : List ℕ
+turned = framed 45 (stays 3 25 ++ (either 1 30 5 40 ++ either 2 20 10 10))
+
+abbrev pub case : List ℕ → Claim → Case
+case s c = record { table = s; claim = c }
+
+-- The cases, by their numbers (12 is of the frame runner and stands with it).
+unfoldable pub marked : List Case
+marked =
+    case E (plan-is planE 40 45)
+    ∷ case (framed 44 (either 1 30 5 40 ++ (either 2 20 10 10 ++ stays 3 25))) no-plan
+    ∷ case E (least-is 45)
+    ∷ case turned no-given
+    ∷ case turned (plan-is planE 40 45)
+    ∷ case (framed 20 (either 1 10 10 0 ++ either 2 10 10 0)) (plan-is (0x20 ∷ 0x01 ∷ 0x20 ∷ 0x02 ∷ 0x2F ∷ []) 20 20)
+    ∷ case (framed 16 (either 1 10 4 12 ++ either 2 10 4 12)) (plan-is (0x21 ∷ 0x01 ∷ 0x20 ∷ 0x02 ∷ 0x2F ∷ []) 14 16)
+    ∷ case (framed 15 (either 1 10 4 12 ++ either 2 10 4 12)) no-plan
+    ∷ case (framed 40 (either 1 50 10 10 ++ either 2 50 10 30)) (plan-is (0x21 ∷ 0x02 ∷ 0x21 ∷ 0x01 ∷ 0x2F ∷ []) 20 40)
+    ∷ case (framed 39 (either 1 50 10 10 ++ either 2 50 10 30)) no-plan
+    ∷ case (0x10 ∷ 0x01 ∷ 0x00 ∷ 0x1F ∷ []) (plan-is (0x2F ∷ []) 0 0)
+    ∷ case (0x10 ∷ 0x01 ∷ 0x00 ∷ 0x1F ∷ []) (least-is 1)
+    ∷ case [] (read-as (Short (place 0)))
+    ∷ []
+
+unfoldable pub AllHold : Type 0
+AllHold = All Holds marked
