@@ -1,8 +1,11 @@
 -- Document 01, 'Marked cases': each a table with what is claimed of it, told of whatever meets the contracts.
 -- Assumes nothing.
 use mathlib.Core.Path.{_≡_}
-use mathlib.Core.List.{List, [], _∷_, _++_}
+use mathlib.Core.Bool.{false}
+use lib.IntN.{pos}
+use mathlib.Core.List.{List, [], _∷_, _++_, map}
 use Prim.Native.Nat.{ℕ, _≤_, _%_, _/_}
+use lib.Ieee.{Float, fin}
 use lib.ListN.{length, drop}
 use Rattle.model.specs.Lists.{All}
 use Rattle.table.specs.declared.refusal.Refusal.{Refusal}
@@ -13,14 +16,23 @@ use Rattle.table.specs.Tables.{readTable}
 use Rattle.planner.specs.declared.Planned.{Planned}
 use Rattle.planner.specs.declared.Least.{Least}
 use Rattle.planner.specs.Answers.{plannedSays, leastSays, Refuses, FreeAnswer, GivenAnswer, LeastAnswer}
+use Rattle.frame.specs.declared.Event.{Event}
+use Rattle.frame.specs.declared.Event.the-variants.{SpanEnd, Return}
+use Rattle.frame.specs.declared.Reading.{Reading}
+use Rattle.frame.specs.declared.Reading.the-variants.{Fresh, Late}
+use Rattle.frame.specs.declared.Answer.the-variants.{Read}
+use Rattle.frame.specs.Step.{readOf}
+use Rattle.frame.specs.Run.{begin, event, reached}
 
--- what is claimed of a table: its free-order plan with busy total and last finish, no free-order plan, no given-order plan, its least deadline, a refusal in reading
+-- what is claimed of a table: its free-order plan with busy total and last finish, no free-order plan, no given-order plan, its least deadline, a refusal in reading,
+-- and what a job reads as after its plan is begun as frame 1 and these events have come
 pub data Claim : Type 0 where
   plan-is : List ℕ → (busy last : ℕ) → Claim
   no-plan : Claim
   no-given : Claim
   least-is : ℕ → Claim
   read-as : Refusal → Claim
+  after-events : (plan : List ℕ) → List Event → (id : ℕ) → Reading → Claim
 
 pub record Case : Type 0 where
   pub table : List ℕ
@@ -35,6 +47,7 @@ Claimed s no-plan = (before : List ℕ) (r : Planned) (after : List ℕ) → lon
 Claimed s no-given = (before : List ℕ) (r : Planned) (after : List ℕ) → longestPlan ≤ length before → GivenAnswer s before r after → Refuses None before r after
 Claimed s (least-is d) = (r : Least) → LeastAnswer s r → leastSays r ≡ 0 ∷ d ∷ []
 Claimed s (read-as f) = readTable s ≡ refused f
+Claimed s (after-events p es id r) = readOf (reached (begin s p 1 ∷ map event es)) id ≡ Read r
 
 abbrev pub Holds : Case → Type 0
 Holds c = Claimed (c .table) (c .claim)
@@ -68,7 +81,14 @@ turned = framed 45 (stays 3 25 ++ (either 1 30 5 40 ++ either 2 20 10 10))
 abbrev pub case : List ℕ → Claim → Case
 case s c = record { table = s; claim = c }
 
--- The cases, by their numbers (12 is of the frame runner and stands with it).
+-- the events of E's plan at full entries, each with the value 1, up to a return of job 1
+abbrev pub one : Float
+one = fin false 1 (pos 0)
+
+abbrev pub upTo : ℕ → List Event
+upTo back = SpanEnd 1 5 one ∷ SpanEnd 2 15 one ∷ Return 1 2 25 one ∷ SpanEnd 3 40 one ∷ Return 1 1 back one ∷ []
+
+-- The cases, by their numbers.
 unfoldable pub marked : List Case
 marked =
     case E (plan-is planE 40 45)
@@ -84,6 +104,8 @@ marked =
     ∷ case (0x10 ∷ 0x01 ∷ 0x00 ∷ 0x1F ∷ []) (plan-is (0x2F ∷ []) 0 0)
     ∷ case (0x10 ∷ 0x01 ∷ 0x00 ∷ 0x1F ∷ []) (least-is 1)
     ∷ case [] (read-as (Short (place 0)))
+    ∷ case E (after-events planE (upTo 45) 1 (Fresh (record { value = one; frame = 1 })))
+    ∷ case E (after-events planE (upTo 46) 1 Late)
     ∷ []
 
 unfoldable pub AllHold : Type 0

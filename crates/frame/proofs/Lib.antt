@@ -1,0 +1,12 @@
+pub mod Laws
+pub mod Passed
+pub mod Filled
+pub mod Refused
+pub mod Sound
+pub mod Reached
+pub mod Safe
+pub mod Numbers
+pub mod Apart
+pub mod Says
+pub mod Promises
+pub mod Case

@@ -1,0 +1,150 @@
+-- What the test of a record says, in words of numbers: the list of docs/ that makes a begun record sound. Assumes nothing.
+use Prim.Native.Nat.{ℕ, zero, suc, _+_, _≤_, _<_}
+use native.Mathlib.Omega.{arith}
+use mathlib.Core.Path.{_≡_, refl, ap}
+use mathlib.Core.Bool.{Bool, true, _&&_}
+use mathlib.Core.List.{List}
+use borrow.Author.Tests.{leb-true, eqb-true, le-leb, lt-ltb, eq-eqb}
+use lib.ListN.{getD}
+use lib.Dec.{leb, ltb}
+use Rattle.table.specs.Limits.{mostJobs, largestTime}
+use Rattle.frame.specs.Sound.{none, entryAt, placeAt, entryId, itself, first, isAt, okId, okEntry, okOrder, okAt, okFrom, okCounts, okDeadline, okBegun, okIn, isOpen, sound?, open?}
+use Rattle.frame.specs.declared.Phase.{Phase}
+use Rattle.frame.specs.declared.Phase.the-variants.{Idle, Open, Closed}
+use Rattle.frame.specs.declared.Frame.{Frame}
+use Rattle.frame.specs.declared.Found.{Found}
+use Rattle.frame.specs.declared.Found.the-variants.{At, Nothing}
+use Rattle.frame.proofs.Laws.{false-true, and-left, and-right, and-both, at-each, order-below, open-begun, first-least, first-found}
+
+-- counts and deadline in range; the plan's order a permutation of the table's places; ids that differ; each job where it may stand
+pub record Begun (f : Frame) : Type 0 where
+  pub room : f .count ≤ mostJobs
+  pub reached : f .next ≤ f .count
+  pub low : 1 ≤ f .deadline
+  pub high : f .deadline ≤ largestTime
+  pub places : (k : ℕ) → k < f .count → placeAt (f .order) k < f .count
+  pub places-differ : (i k : ℕ) → i < k → k < f .count → placeAt (f .order) i ≡ placeAt (f .order) k → ⊥
+  pub ids-differ : (i k : ℕ) → i < k → k < f .count → entryAt (f .entries) i .id ≡ entryAt (f .entries) k .id → ⊥
+  pub stands : (k : ℕ) → k < f .count → okEntry (f .number) (ltb k (f .next)) (entryAt (f .entries) (placeAt (f .order) k)) ≡ true
+
+-- ---- no position before has the key
+
+is-at : (w : Found) (k : ℕ) → isAt w k ≡ true → w ≡ At k
+is-at (At i) k e = ap At (eqb-true i k e)
+is-at Nothing k e = absurd (false-true e)
+
+module _ {A : Type 0} (key : A → ℕ) (d : A) (xs : List A) (n k : ℕ) where
+  abbrev Own : Bool
+  Own = isAt (first key d xs (key (getD xs k d)) 0 n) k
+
+  own-tells : Own ≡ true → (i : ℕ) → i < k → key (getD xs i d) ≡ key (getD xs k d) → ⊥
+  own-tells e i h is = first-least key d xs (key (getD xs k d)) 0 n k (is-at _ k e) i (omega arith) h is
+
+  own-made : k < n → ((i : ℕ) → i < k → key (getD xs i d) ≡ key (getD xs k d) → ⊥) → Own ≡ true
+  own-made h differ = rw (first-found key d xs (key (getD xs k d)) 0 n k (omega arith) (omega arith) refl (λ i _ q. differ i q)) (eq-eqb k k refl)
+
+-- ---- the test and the list
+
+module _ (f : Frame) where
+  order-own : (k : ℕ) → okOrder (f .order) (f .count) k ≡ true → (i : ℕ) → i < k → placeAt (f .order) i ≡ placeAt (f .order) k → ⊥
+  unfolding okOrder
+  order-own k e = own-tells itself 0 (f .order) (f .count) k (and-right (ltb (placeAt (f .order) k) (f .count)) _ e)
+
+  id-own : (k : ℕ) → okId (f .entries) (f .count) k ≡ true → (i : ℕ) → i < k → entryAt (f .entries) i .id ≡ entryAt (f .entries) k .id → ⊥
+  unfolding okId
+  id-own k e = own-tells entryId none (f .entries) (f .count) k e
+
+  module _ (e : okBegun f ≡ true) where
+    counts : okCounts f ≡ true
+    unfolding okBegun
+    counts = and-left _ _ e
+
+    in-range : okDeadline (f .deadline) ≡ true
+    unfolding okBegun
+    in-range = and-left _ _ (and-right (okCounts f) _ e)
+
+    at-position : (k : ℕ) → k < f .count → okAt f k ≡ true
+    unfolding okBegun
+    at-position k h = at-each f 0 (f .count) (and-right (okDeadline (f .deadline)) _ (and-right (okCounts f) _ e)) k (omega arith) (omega arith)
+
+    order-at : (k : ℕ) → k < f .count → okOrder (f .order) (f .count) k ≡ true
+    unfolding okAt
+    order-at k h = and-left _ _ (at-position k h)
+
+    rest-at : (k : ℕ) → k < f .count → (okId (f .entries) (f .count) k && okEntry (f .number) (ltb k (f .next)) (entryAt (f .entries) (placeAt (f .order) k))) ≡ true
+    unfolding okAt
+    rest-at k h = and-right (okOrder (f .order) (f .count) k) _ (at-position k h)
+
+    pub parts : Begun f
+    parts = record {
+      room = leb-true _ _ (and-left _ _ counts);
+      reached = leb-true _ _ (and-right (leb (f .count) mostJobs) _ counts);
+      low = leb-true _ _ (and-left _ _ in-range);
+      high = leb-true _ _ (and-right (leb 1 (f .deadline)) _ in-range);
+      places = λ k h. order-below (f .order) (f .count) k (order-at k h);
+      places-differ = λ i k h b. order-own k (order-at k b) i h;
+      ids-differ = λ i k h b. id-own k (and-left _ _ (rest-at k b)) i h;
+      stands = λ k h. and-right (okId (f .entries) (f .count) k) _ (rest-at k h);
+    }
+
+  module _ (b : Begun f) where
+    order-made : (k : ℕ) → k < f .count → okOrder (f .order) (f .count) k ≡ true
+    unfolding okOrder
+    order-made k h = and-both _ _ (lt-ltb _ _ (b .places k h)) (own-made itself 0 (f .order) (f .count) k h (λ i q. b .places-differ i k q h))
+
+    id-made : (k : ℕ) → k < f .count → okId (f .entries) (f .count) k ≡ true
+    unfolding okId
+    id-made k h = own-made entryId none (f .entries) (f .count) k h (λ i q. b .ids-differ i k q h)
+
+    at-made : (k : ℕ) → k < f .count → okAt f k ≡ true
+    unfolding okAt
+    at-made k h = and-both _ _ (order-made k h) (and-both _ _ (id-made k h) (b .stands k h))
+
+    from-made : (k n : ℕ) → k + n ≤ f .count → okFrom f k n ≡ true
+    unfolding okFrom
+    from-made k zero h = refl
+    from-made k (suc n) h = and-both _ _ (at-made k (omega arith)) (from-made (k + 1) n (omega arith))
+
+    pub made : okBegun f ≡ true
+    unfolding okBegun
+    made =
+        and-both _ _ (and-both _ _ (le-leb _ _ (b .room)) (le-leb _ _ (b .reached)))
+        (and-both _ _ (and-both _ _ (le-leb _ _ (b .low)) (le-leb _ _ (b .high))) (from-made 0 (f .count) (omega arith)))
+
+-- a record is sound: it is idle, or as listed
+abbrev pub SoundIn : Phase → Frame → Type 0
+SoundIn Idle f = Unit {0}
+SoundIn Open f = Begun f
+SoundIn Closed f = Begun f
+
+tells-in : (p : Phase) (f : Frame) → okIn p f ≡ true → SoundIn p f
+tells-in Idle f e = tt
+tells-in Open f e = parts f e
+tells-in Closed f e = parts f e
+
+made-in : (p : Phase) (f : Frame) → SoundIn p f → okIn p f ≡ true
+made-in Idle f b = refl
+made-in Open f b = made f b
+made-in Closed f b = made f b
+
+pub sound-tells : (f : Frame) → sound? f ≡ true → SoundIn (f .phase) f
+unfolding sound?
+sound-tells f e = tells-in (f .phase) f e
+
+pub sound-made : (f : Frame) → SoundIn (f .phase) f → sound? f ≡ true
+unfolding sound?
+sound-made f b = made-in (f .phase) f b
+
+-- ---- a sound record that is open
+
+open-is : (p : Phase) → isOpen p ≡ true → p ≡ Open
+open-is Idle e = absurd (false-true e)
+open-is Open e = refl
+open-is Closed e = absurd (false-true e)
+
+pub open-phase : (f : Frame) → open? f ≡ true → f .phase ≡ Open
+unfolding open?
+open-phase f o = open-is (f .phase) (and-right (sound? f) _ o)
+
+pub open-parts : (f : Frame) → open? f ≡ true → Begun f
+open-parts f o = parts f (open-begun f o)

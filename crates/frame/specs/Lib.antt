@@ -1,0 +1,5 @@
+pub mod Finite
+pub mod Sound
+pub mod Step
+pub mod Begin
+pub mod Run

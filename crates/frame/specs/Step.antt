@@ -1,0 +1,202 @@
+-- Document 01, 'The frame runner': the rules of each call, by cases and in the document's order, and what each answer says.
+-- Assumes nothing.
+use Prim.Native.Nat.{ℕ, _+_}
+use mathlib.Core.Bool.{Bool, true, false, _&&_}
+use mathlib.Core.List.{List, [], _∷_}
+use mathlib.Core.Option.{Option, none, some}
+use lib.ListN.{set, replicate}
+use lib.Dec.{leb, ltb, eqb}
+use lib.Ieee.{Float}
+use Rattle.table.specs.Limits.{mostJobs}
+use Rattle.table.specs.declared.refusal.Refusal.{Refusal}
+use Rattle.table.specs.declared.refusal.Refusal.the-variants as R
+use Rattle.table.specs.Refusals.{refusalSays}
+use Rattle.frame.specs.Finite.{finite?}
+use Rattle.frame.specs.Sound as S
+use Rattle.frame.specs.Sound.{pick, entryAt, entryId, placeAt, first, isOpen, open?, begun?}
+use Rattle.frame.specs.declared.Phase.{Phase}
+use Rattle.frame.specs.declared.Phase.the-variants.{Idle, Closed}
+use Rattle.frame.specs.declared.Standing.{Standing}
+use Rattle.frame.specs.declared.Standing.the-variants.{Waiting, Out, Held, Late}
+use Rattle.frame.specs.declared.Entry.{Entry}
+use Rattle.frame.specs.declared.Frame.{Frame}
+use Rattle.frame.specs.declared.Reading.{Reading}
+use Rattle.frame.specs.declared.Reading.the-variants as reads
+use Rattle.frame.specs.declared.Answer.{Answer}
+use Rattle.frame.specs.declared.Answer.the-variants.{Done, Panel, Rest, Read, Refused}
+use Rattle.frame.specs.declared.Found.{Found}
+use Rattle.frame.specs.declared.Found.the-variants.{At, Nothing}
+use Rattle.frame.specs.declared.Event.{Event}
+use Rattle.frame.specs.declared.Event.the-variants as E
+use Rattle.frame.specs.declared.Step.{Step}
+
+-- What an answer says: a number and values, 0 for a call that is accepted; and a float, where there is one.
+pub record Said : Type 0 where
+  pub numbers : List ℕ
+  pub float : Option Float
+
+abbrev pub says : List ℕ → Said
+says ns = record { numbers = ns; float = none }
+
+-- "fresh with its value, pending, late, or missing", numbered in this order; a fresh one with the number of its frame
+abbrev pub readingSays : Reading → Said
+readingSays (reads.Fresh x) = record { numbers = 0 ∷ 0 ∷ x .frame ∷ []; float = some (x .value) }
+readingSays reads.Pending = says (0 ∷ 1 ∷ [])
+readingSays reads.Late = says (0 ∷ 2 ∷ [])
+readingSays reads.Missing = says (0 ∷ 3 ∷ [])
+
+-- "the job now on the panel with its choice": 1, its id, and 1 for away; "or none left": 0. No two answers say the same (proofs/Says.antt).
+abbrev pub answerSays : Answer → Said
+answerSays Done = says (0 ∷ [])
+answerSays (Panel id away) = says (0 ∷ 1 ∷ id ∷ pick away 1 0 ∷ [])
+answerSays Rest = says (0 ∷ 0 ∷ [])
+answerSays (Read r) = readingSays r
+answerSays (Refused r) = says (refusalSays r)
+
+-- a record before any frame
+abbrev pub idle : Frame
+idle = record {
+  phase = Idle;
+  number = 0;
+  clock = 0;
+  deadline = 0;
+  count = 0;
+  next = 0;
+  order = replicate mostJobs 0;
+  entries = replicate mostJobs S.none;
+}
+
+-- "No refusal .. alters the frame's record."
+abbrev pub refused : Refusal → Frame → Step
+refused r f = record { answer = Refused r; frame = f }
+
+abbrev pub done : Frame → Step
+done f = record { answer = Done; frame = f }
+
+-- "PHASE unless open", and of an unsound record
+abbrev pub inOpen : Frame → Step → Step
+inOpen f s = pick (open? f) s (refused R.Phase f)
+
+-- "CLOCK: time below that of the last accepted event"
+abbrev pub onClock : Frame → ℕ → Step → Step
+onClock f t s = pick (ltb t (f .clock)) (refused R.Clock f) s
+
+-- "gets its value if time <= D, else is late"
+abbrev pub judge : Float → ℕ → ℕ → ℕ → Standing
+judge v number time deadline = pick (leb time deadline) (Held (record { value = v; frame = number })) Late
+
+-- the job at a place of the table stands at s from now on; the time and how far the plan is are set
+abbrev pub standing : Entry → Standing → Entry
+standing e s = record { id = e .id; away = e .away; standing = s }
+
+abbrev pub moved : Frame → ℕ → ℕ → ℕ → Standing → Frame
+moved f at time next s = record {
+  phase = f .phase;
+  number = f .number;
+  clock = time;
+  deadline = f .deadline;
+  count = f .count;
+  next = next;
+  order = f .order;
+  entries = set (f .entries) at (standing (entryAt (f .entries) at) s);
+}
+
+-- where the job of an id stands in the table
+unfoldable pub whereIs : Frame → ℕ → Found
+whereIs f id = first entryId S.none (f .entries) id 0 (f .count)
+
+-- the job now on the panel: the one that the plan is at
+abbrev pub panelPlace : Frame → ℕ
+panelPlace f = placeAt (f .order) (f .next)
+
+abbrev pub panelEntry : Frame → Entry
+panelEntry f = entryAt (f .entries) (panelPlace f)
+
+-- "Next: PHASE unless open; else the job now on the panel with its choice, or none left."
+unfoldable pub nextOf : Frame → Answer
+nextOf f =
+    pick (open? f)
+    (pick (ltb (f .next) (f .count)) (Panel (panelEntry f .id) (panelEntry f .away)) Rest)
+    (Refused R.Phase)
+
+-- "Span end: .. for a here job VALUE. A here job gets its value if time <= D, else is late. An away job is now out, its value argument
+-- ignored. The next job starts at this time."
+abbrev pub spanAt : Frame → ℕ → Float → Bool → Step
+spanAt f t v true = done (moved f (panelPlace f) t (f .next + 1) Out)
+spanAt f t v false =
+    pick (finite? v)
+    (done (moved f (panelPlace f) t (f .next + 1) (judge v (f .number) t (f .deadline))))
+    (refused R.Value f)
+
+-- "WHO unless it is the job now on the panel"
+abbrev pub onPanel : Frame → ℕ → Bool
+onPanel f id = ltb (f .next) (f .count) && eqb (panelEntry f .id) id
+
+-- "PHASE unless open; CLOCK; WHO; for a here job VALUE"
+unfoldable pub spanStep : Frame → ℕ → ℕ → Float → Step
+spanStep f id t v =
+    inOpen f (onClock f t (pick (onPanel f id) (spanAt f t v (panelEntry f .away)) (refused R.Who f)))
+
+-- "Return: .. WHO unless that job is out; VALUE. Value if time <= D, else late; no longer out."
+abbrev pub backAt : Frame → ℕ → ℕ → Float → Standing → Step
+backAt f at t v Waiting = refused R.Who f
+backAt f at t v Out =
+    pick (finite? v)
+    (done (moved f at t (f .next) (judge v (f .number) t (f .deadline))))
+    (refused R.Value f)
+backAt f at t v (Held s) = refused R.Who f
+backAt f at t v Late = refused R.Who f
+
+abbrev pub backTo : Frame → ℕ → Float → Found → Step
+backTo f t v (At i) = backAt f i t v (entryAt (f .entries) i .standing)
+backTo f t v Nothing = refused R.Who f
+
+-- "PHASE unless open; NUMBER; CLOCK; WHO; VALUE"
+unfoldable pub backStep : Frame → ℕ → ℕ → ℕ → Float → Step
+backStep f n id t v =
+    inOpen f (pick (eqb n (f .number)) (onClock f t (backTo f t v (whereIs f id))) (refused R.Number f))
+
+-- "Close: PHASE unless open; CLOCK; EARLY if time < D."
+abbrev pub closed : Frame → ℕ → Frame
+closed f t = record {
+  phase = Closed;
+  number = f .number;
+  clock = t;
+  deadline = f .deadline;
+  count = f .count;
+  next = f .next;
+  order = f .order;
+  entries = f .entries;
+}
+
+unfoldable pub closeStep : Frame → ℕ → Step
+closeStep f t = inOpen f (onClock f t (pick (ltb t (f .deadline)) (refused R.Early f) (done (closed f t))))
+
+-- "Read: .. else fresh with its value, pending, late, or missing (closed, never reported)"
+abbrev pub unreported : Phase → Reading
+unreported p = pick (isOpen p) reads.Pending reads.Missing
+
+abbrev pub readingOf : Phase → Standing → Reading
+readingOf p Waiting = unreported p
+readingOf p Out = unreported p
+readingOf p (Held s) = reads.Fresh s
+readingOf p Late = reads.Late
+
+abbrev pub readAt : Frame → Found → Answer
+readAt f (At i) = Read (readingOf (f .phase) (entryAt (f .entries) i .standing))
+readAt f Nothing = Refused R.Who
+
+-- "PHASE if idle; WHO if not in the table"
+unfoldable pub readOf : Frame → ℕ → Answer
+readOf f id = pick (begun? f) (readAt f (whereIs f id)) (Refused R.Phase)
+
+-- every call but begin; next and read leave the record as it is
+abbrev pub asked : Frame → Answer → Step
+asked f a = record { answer = a; frame = f }
+
+abbrev pub eventStep : Frame → Event → Step
+eventStep f E.Next = asked f (nextOf f)
+eventStep f (E.SpanEnd id t v) = spanStep f id t v
+eventStep f (E.Return n id t v) = backStep f n id t v
+eventStep f (E.Close t) = closeStep f t
+eventStep f (E.Read id) = asked f (readOf f id)

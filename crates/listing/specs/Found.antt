@@ -1,0 +1,50 @@
+-- What the lister's code goes by: the job of an id in the table, a plan's steps with their jobs, a refusal's numbers, and the text of what was made.
+-- Assumes nothing.
+use mathlib.Core.Bool.{Bool, true, false, cond}
+use mathlib.Core.List.{List, [], _∷_, _++_, map}
+use Prim.Native.Nat.{ℕ}
+use lib.Dec.{eqb}
+use Rattle.model.specs.declared.Job.{Job}
+use Rattle.model.specs.Timetable.{Chosen, Placed}
+use Rattle.model.specs.FreeOrder.{laid}
+use Rattle.model.specs.Laying.{chosen}
+use Rattle.model.specs.Positions.{noJob}
+use Rattle.table.specs.declared.Table.{Table}
+use Rattle.table.specs.declared.refusal.Refusal.the-variants.{None}
+use Rattle.table.specs.Refusals.{refusalSays}
+use Rattle.table.specs.Tables.{jobTable}
+use Rattle.plan.specs.declared.Step.{Step}
+use Rattle.plan.specs.Plans.{stepsOf}
+use Rattle.draft.specs.declared.Draft.{Draft}
+use Rattle.draft.specs.declared.Drafted.{Drafted}
+use Rattle.listing.specs.Listing.{firstLine, jobLines, lastLine, refusedText}
+use Rattle.listing.specs.declared.Said.{Said}
+
+-- the first job with this id
+unfoldable pub jobWith : List Job → ℕ → Job
+jobWith [] id = noJob
+jobWith (j ∷ js) id = cond (eqb (j .id) id) j (jobWith js id)
+
+-- a step with its job
+abbrev pub chosenBy : List Job → Step → Chosen
+chosenBy js x = chosen (jobWith js (x .id)) (x .away)
+
+abbrev pub chosenFor : List Job → List Step → List Chosen
+chosenFor js xs = map (chosenBy js) xs
+
+abbrev pub placed : Job → Bool → ℕ → Placed
+placed j away start = record { what = chosen j away; start = start }
+
+-- a refusal's number and, for 1 to 6, its place
+abbrev pub saidOf : List ℕ → Said
+saidOf [] = record { number = 0; placed = false; place = 0 }
+saidOf (n ∷ []) = record { number = n; placed = false; place = 0 }
+saidOf (n ∷ p ∷ rest) = record { number = n; placed = true; place = p }
+
+-- the text of a draft, and of what the planner made
+unfoldable pub draftText : Table → Draft → List ℕ
+draftText t d =
+    firstLine (t .deadline) (t .count) ++ jobLines (laid 0 (chosenFor (jobTable t .jobs) (stepsOf (d .plan)))) ++ lastLine (d .laid .busy) (d .laid .last)
+
+unfoldable pub madeText : Table → Drafted → List ℕ
+madeText t m = cond (m .found) (draftText t (m .draft)) (refusedText (refusalSays None))

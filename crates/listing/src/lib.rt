@@ -1,0 +1,227 @@
+// The lister's text: the free-order plan of a table, or a refusal, as document 01 has it printed, at the front of a lent buffer.
+// specs/Listing.antt has the text for any table bytes; the fixed words stand here as byte strings.
+use draft::Draft;
+use draft::Drafted;
+use model::Job;
+use model::Sending;
+use plan::Plan;
+use table::Table;
+use table::TableVerdict;
+use table::refusal::Place;
+use table::refusal::Refusal;
+ghost use mathlib.Core.Path.{_≡_};
+ghost use mathlib.Core.List.{[], _∷_, _++_};
+ghost use Prim.Native.Nat.{_+_, _≤_};
+ghost use lib.ListN.{length};
+ghost use Rattle.model.specs.FreeOrder.{laid};
+ghost use Rattle.table.specs.Refusals.{refusalSays};
+ghost use Rattle.table.specs.Tables.{jobTable};
+ghost use Rattle.plan.specs.Plans.{stepsOf};
+ghost use Rattle.text.specs.Decimals.{decimal};
+ghost use Rattle.text.specs.Writing.{Wrote};
+ghost use Rattle.listing.specs.Found.{jobWith, chosenFor, placed, saidOf, draftText, madeText};
+ghost use Rattle.listing.specs.Listing.{choiceWord, jobLine, pairLine, jobLines, refusedText, Lists};
+
+// The text's length, or no room for the longest text.
+pub enum Listed {
+    Text(usize),
+    NoRoom,
+}
+
+// A refusal's number and, where it has one, its place.
+struct Said {
+    number: usize,
+    placed: bool,
+    place: usize,
+}
+
+// A word and a number behind it.
+fn put_field(out: &mut [u8], at: usize, word: &[u8], n: usize) -> usize
+    requires { ⌜ at + length (now word ++ decimal n) ≤ length (now out) ⌝ }
+    ensures { λ r. ⌜ Wrote (now (out .entry)) at (now (word .entry) ++ decimal n) (now (out .exit)) r ⌝ }
+{
+    let end = text::put(out, at, word);
+    text::put_number(out, end, n)
+}
+
+// A line of two numbers, each behind its word.
+fn put_pair(out: &mut [u8], at: usize, first: &[u8], a: usize, second: &[u8], b: usize) -> usize
+    requires { ⌜ at + length (pairLine (now first) a (now second) b) ≤ length (now out) ⌝ }
+    ensures { λ r. ⌜ Wrote (now (out .entry)) at (pairLine (now (first .entry)) a (now (second .entry)) b) (now (out .exit)) r ⌝ }
+{
+    let middle = put_field(out, at, first, a);
+    let end = put_field(out, middle, second, b);
+    text::put(out, end, b"\n")
+}
+
+// A job's choice and its start.
+fn put_start(out: &mut [u8], at: usize, away: bool, start: usize) -> usize
+    requires { ⌜ at + length (choiceWord away ++ decimal start) ≤ length (now out) ⌝ }
+    ensures { λ r. ⌜ Wrote (now (out .entry)) at (choiceWord away ++ decimal start) (now (out .exit)) r ⌝ }
+{
+    if away {
+        put_field(out, at, b" away ", start)
+    } else {
+        put_field(out, at, b" here ", start)
+    }
+}
+
+// The line of a job whose span starts at `start`.
+fn put_job_line(out: &mut [u8], at: usize, job: Job, away: bool, start: usize) -> usize
+    requires { ⌜ (start ≤ 4000000000) × (at + length (jobLine (placed job away start)) ≤ length (now out)) ⌝ }
+    ensures { λ r. ⌜ Wrote (now (out .entry)) at (jobLine (placed job away start)) (now (out .exit)) r ⌝ }
+{
+    let end = start + model::span_of(job, away) as usize;
+    let finish = end + model::wait_of(job, away) as usize;
+    let a = text::put_number(out, at, job.id as usize);
+    let b = put_start(out, a, away, start);
+    put_pair(out, b, b" ", end, b" ", finish)
+}
+
+// The job of the table with this id; ids are distinct, and every step of a plan has one.
+fn job_with(t: Table, id: u8) -> Job
+    requires { ⌜ t .count ≤ 32 ⌝ }
+    ensures { λ r. ⌜ r ≡ jobWith (jobTable t .jobs) id ⌝ }
+{
+    let n = t.count;
+    let mut i = 0;
+    while i < n {
+        let job = t.jobs[i];
+        if job.id == id {
+            return job;
+        }
+        i += 1;
+    }
+    Job {
+        id: 0,
+        local: 0,
+        sending: Sending::HereOnly,
+    }
+}
+
+// A line for each step of the plan, back to back from tick 0.
+fn put_lines(out: &mut [u8], from: usize, plan: Plan, t: Table) -> usize
+    requires { ⌜ (plan .count ≤ 32) × (t .count ≤ 32) × (from + length (jobLines (laid 0 (chosenFor (jobTable t .jobs) (stepsOf plan)))) ≤ length (now out)) ⌝ }
+    ensures { λ r. ⌜ Wrote (now (out .entry)) from (jobLines (laid 0 (chosenFor (jobTable t .jobs) (stepsOf plan)))) (now (out .exit)) r ⌝ }
+{
+    let n = plan.count;
+    let mut i = 0;
+    let mut at = from;
+    let mut start = 0;
+    while i < n {
+        let step = plan.steps[i];
+        let away = step.away;
+        let job = job_with(t, step.id);
+        at = put_job_line(out, at, job, away, start);
+        start += model::span_of(job, away) as usize;
+        i += 1;
+    }
+    at
+}
+
+// The first line, a line for each step, the last line.
+fn put_plan(out: &mut [u8], t: Table, draft: Draft) -> usize
+    requires { ⌜ (draft .plan .count ≤ 32) × (t .count ≤ 32) × (length (draftText t draft) ≤ length (now out)) ⌝ }
+    ensures { λ r. ⌜ Wrote (now (out .entry)) 0 (draftText t draft) (now (out .exit)) r ⌝ }
+{
+    let plan = draft.plan;
+    let laid = draft.laid;
+    let a = put_pair(out, 0, b"frame ", t.deadline as usize, b" jobs ", t.count);
+    let b = put_lines(out, a, plan, t);
+    put_pair(
+        out,
+        b,
+        b"busy ",
+        laid.busy as usize,
+        b" last ",
+        laid.last as usize,
+    )
+}
+
+fn at_place(number: usize, p: Place) -> Said
+    ensures { λ r. ⌜ r ≡ saidOf (number ∷ p .at ∷ []) ⌝ }
+{
+    Said {
+        number,
+        placed: true,
+        place: p.at,
+    }
+}
+
+fn no_place(number: usize) -> Said
+    ensures { λ r. ⌜ r ≡ saidOf (number ∷ []) ⌝ }
+{
+    Said {
+        number,
+        placed: false,
+        place: 0,
+    }
+}
+
+// What a refusal says, by document 01's numbers.
+fn numbers_of(f: Refusal) -> Said
+    ensures { λ r. ⌜ r ≡ saidOf (refusalSays f) ⌝ }
+{
+    match f {
+        Refusal::Short(p) => at_place(1, p),
+        Refusal::Kind(p) => at_place(2, p),
+        Refusal::Range(p) => at_place(3, p),
+        Refusal::Many(p) => at_place(4, p),
+        Refusal::Twice(p) => at_place(5, p),
+        Refusal::After(p) => at_place(6, p),
+        Refusal::None => no_place(7),
+        Refusal::Stranger => no_place(8),
+        Refusal::Kept => no_place(9),
+        Refusal::Left => no_place(10),
+        Refusal::Late => no_place(11),
+        Refusal::Phase => no_place(12),
+        Refusal::Number => no_place(13),
+        Refusal::Clock => no_place(14),
+        Refusal::Who => no_place(15),
+        Refusal::Value => no_place(16),
+        Refusal::Early => no_place(17),
+        Refusal::Room => no_place(18),
+    }
+}
+
+// The line of a refusal: its number, and its place if it has one.
+fn put_refused(out: &mut [u8], f: Refusal) -> usize
+    requires { ⌜ length (refusedText (refusalSays f)) ≤ length (now out) ⌝ }
+    ensures { λ r. ⌜ Wrote (now (out .entry)) 0 (refusedText (refusalSays f)) (now (out .exit)) r ⌝ }
+{
+    let said = numbers_of(f);
+    if said.placed {
+        return put_pair(out, 0, b"refused ", said.number, b" at ", said.place);
+    }
+    let end = put_field(out, 0, b"refused ", said.number);
+    text::put(out, end, b"\n")
+}
+
+// The plan that was found, or NONE.
+fn put_made(out: &mut [u8], t: Table, made: Drafted) -> usize
+    requires { ⌜ (made .draft .plan .count ≤ 32) × (t .count ≤ 32) × (length (madeText t made) ≤ length (now out)) ⌝ }
+    ensures { λ r. ⌜ Wrote (now (out .entry)) 0 (madeText t made) (now (out .exit)) r ⌝ }
+{
+    let draft = made.draft;
+    if made.found {
+        put_plan(out, t, draft)
+    } else {
+        put_refused(out, Refusal::None)
+    }
+}
+
+// The text for any table bytes, at the front of the buffer; the rest of it is left. A buffer of 1,024 bytes has room for every text.
+pub fn list_plan(table: &[u8], out: &mut [u8]) -> Listed
+    ensures { λ r. ⌜ Lists (now (table .entry)) (now (out .entry)) r (now (out .exit)) ⌝ }
+{
+    if out.len() < 1024 {
+        return Listed::NoRoom;
+    }
+    let read = table::read_table(table);
+    let verdict = read.verdict;
+    let t = read.table;
+    match verdict {
+        TableVerdict::Refused(f) => Listed::Text(put_refused(out, f)),
+        TableVerdict::Whole => Listed::Text(put_made(out, t, free::free_plan(t))),
+    }
+}
