@@ -9,4 +9,3 @@ pub mod Numbers
 pub mod Apart
 pub mod Says
 pub mod Promises
-pub mod Case

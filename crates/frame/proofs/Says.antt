@@ -7,9 +7,8 @@ use mathlib.Core.List.{List, [], _∷_}
 use lib.ListN.{getD}
 use Rattle.model.proofs.Lists.{clash}
 use Rattle.table.specs.declared.refusal.Refusal.{Refusal}
-use Rattle.table.specs.declared.refusal.Refusal.the-variants.{Short, Kind, Range, Many, Twice, After, None, Stranger, Kept, Left, Late, Phase, Number, Clock, Who, Value, Early, Room}
 use Rattle.table.specs.Refusals.{refusalSays}
-use Rattle.table.proofs.Refusals.{says-injective}
+use Rattle.table.proofs.Refusals.{says-injective, says-numbered}
 use Rattle.frame.specs.Sound.{pick}
 use Rattle.frame.specs.Step.{Said, readingSays, answerSays}
 use Rattle.frame.specs.declared.Sample.{Sample}
@@ -17,27 +16,6 @@ use Rattle.frame.specs.declared.Reading.{Reading}
 use Rattle.frame.specs.declared.Reading.the-variants as reads
 use Rattle.frame.specs.declared.Answer.{Answer}
 use Rattle.frame.specs.declared.Answer.the-variants.{Done, Panel, Rest, Read, Refused}
-
--- refusals are numbered from 1
-numbered : (r : Refusal) → 1 ≤ getD (refusalSays r) 0 0
-numbered (Short p) = omega arith
-numbered (Kind p) = omega arith
-numbered (Range p) = omega arith
-numbered (Many p) = omega arith
-numbered (Twice p) = omega arith
-numbered (After p) = omega arith
-numbered None = omega arith
-numbered Stranger = omega arith
-numbered Kept = omega arith
-numbered Left = omega arith
-numbered Late = omega arith
-numbered Phase = omega arith
-numbered Number = omega arith
-numbered Clock = omega arith
-numbered Who = omega arith
-numbered Value = omega arith
-numbered Early = omega arith
-numbered Room = omega arith
 
 abbrev numbersOf : Said → List ℕ
 numbersOf s = s .numbers
@@ -50,7 +28,7 @@ zero-read reads.Late = refl
 zero-read reads.Missing = refl
 
 not-refused : {P : Type 0} (a : Answer) → getD (answerSays a .numbers) 0 0 ≡ 0 → (r : Refusal) → answerSays a ≡ answerSays (Refused r) → P
-not-refused a z r e = absurd (omega (arith, z, numbered r, ap (λ (s : Said). getD (s .numbers) 0 0) e))
+not-refused a z r e = absurd (omega (arith, z, says-numbered r, ap (λ (s : Said). getD (s .numbers) 0 0) e))
 
 -- the second number tells the readings apart, and from the panel's answers by how many numbers there are
 same-away : (a b : Bool) → _≡_ {A = ℕ} (pick a 1 0) (pick b 1 0) → a ≡ b

@@ -44,25 +44,25 @@ pub says-injective : (f g : Refusal) → refusalSays f ≡ refusalSays g → f �
 says-injective f g e = sym (named-says f) ∙ (ap named e ∙ named-says g)
 
 -- refusals are numbered from 1, so none says what an accepted call says
-numbered : (f : Refusal) → 1 ≤ getD (refusalSays f) 0 0
-numbered (Short p) = omega arith
-numbered (Kind p) = omega arith
-numbered (Range p) = omega arith
-numbered (Many p) = omega arith
-numbered (Twice p) = omega arith
-numbered (After p) = omega arith
-numbered None = omega arith
-numbered Stranger = omega arith
-numbered Kept = omega arith
-numbered Left = omega arith
-numbered Late = omega arith
-numbered Phase = omega arith
-numbered Number = omega arith
-numbered Clock = omega arith
-numbered Who = omega arith
-numbered Value = omega arith
-numbered Early = omega arith
-numbered Room = omega arith
+pub says-numbered : (f : Refusal) → 1 ≤ getD (refusalSays f) 0 0
+says-numbered (Short p) = omega arith
+says-numbered (Kind p) = omega arith
+says-numbered (Range p) = omega arith
+says-numbered (Many p) = omega arith
+says-numbered (Twice p) = omega arith
+says-numbered (After p) = omega arith
+says-numbered None = omega arith
+says-numbered Stranger = omega arith
+says-numbered Kept = omega arith
+says-numbered Left = omega arith
+says-numbered Late = omega arith
+says-numbered Phase = omega arith
+says-numbered Number = omega arith
+says-numbered Clock = omega arith
+says-numbered Who = omega arith
+says-numbered Value = omega arith
+says-numbered Early = omega arith
+says-numbered Room = omega arith
 
 pub says-not-zero : (f : Refusal) (ns : List ℕ) → refusalSays f ≡ 0 ∷ ns → ⊥
-says-not-zero f ns e = omega (arith, numbered f, ap (λ (l : List ℕ). getD l 0 0) e)
+says-not-zero f ns e = omega (arith, says-numbered f, ap (λ (l : List ℕ). getD l 0 0) e)
