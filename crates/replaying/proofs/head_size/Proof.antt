@@ -1,0 +1,40 @@
+-- `replaying::head_size` meets its contract: each arm of the match is one line of `headSize`. Assumes nothing.
+use mathlib.Core.Path.{sym, ap}
+use borrow.Author.Tests.{ne-eqb}
+use Rattle.replaying.specs.Log.{headSize}
+use Rattle.replaying.proofs.head_size.Statement.{statement}
+use Rattle.replaying.proofs.head_size.Tie as tie
+
+returns : tie.Need-returns
+unfolding headSize
+returns c = sym (ap headSize (c .match .keys1))
+
+returns-2 : tie.Need-returns-2
+unfolding headSize
+returns-2 c = sym (ap headSize (c .match .keys2))
+
+returns-3 : tie.Need-returns-3
+unfolding headSize
+returns-3 c = sym (ap headSize (c .match .keys3))
+
+returns-4 : tie.Need-returns-4
+unfolding headSize
+returns-4 c = sym (ap headSize (c .match .keys4))
+
+returns-5 : tie.Need-returns-5
+unfolding headSize
+returns-5 c = sym (ap headSize (c .match .keys5))
+
+returns-6 : tie.Need-returns-6
+unfolding headSize
+returns-6 c = sym (ap headSize (c .match .keys6))
+
+returns-7 : tie.Need-returns-7
+unfolding headSize
+returns-7 c =
+    let r = c .match .rest in
+    simp (ne-eqb _ _ (r .1), ne-eqb _ _ (r .0 .1), ne-eqb _ _ (r .0 .0 .1), ne-eqb _ _ (r .0 .0 .0 .1), ne-eqb _ _ (r .0 .0 .0 .0 .1), ne-eqb _ _ (r .0 .0 .0 .0 .0 .1))
+
+pub head-size-spec : {M : Type 1} → statement M
+head-size-spec =
+    tie.close (tie.spec returns returns-2 returns-3 returns-4 returns-5 returns-6 returns-7)
