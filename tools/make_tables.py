@@ -24,7 +24,7 @@ E = [(1, 30, 5, 40), (2, 20, 10, 10), (3, 25)]
 # valve survey, header estimate, blower trim, set-point search
 HEADER = [(1, 40), (2, 120, 15, 150), (3, 60), (4, 900, 25, 400)]
 
-# the estimate's answer takes as long as the frame in which the shift was lost
+# a table that does not fit its frame: the estimate is too long here, and its answer too late away (made-up numbers)
 SHIFT = [(1, 40), (2, 480, 15, 490), (3, 60)]
 
 # twenty jobs that may go away with ever shorter answers, twelve that stay

@@ -13,6 +13,8 @@ use peer::table::Table;
 
 const TABLES: usize = 3_500;
 
+type Answer = Result<(Vec<u8>, Planned), Refusal>;
+
 /// Generated tables of 0 to 6 jobs, a half of them at the edge.
 fn tables(seed: u64) -> impl Iterator<Item = Table> {
     let mut random = Random::new(seed);
@@ -27,7 +29,7 @@ fn tables(seed: u64) -> impl Iterator<Item = Table> {
 }
 
 /// What a planner has to answer for a choice that the search found.
-fn expected(table: &Table, found: Option<Found>) -> Result<(Vec<u8>, Planned), Refusal> {
+fn expected(table: &Table, found: Option<Found>) -> Answer {
     let found = found.ok_or(Refusal::NoTimetable)?;
     let records = found.order.iter().map(|&job| Record {
         id: table.jobs[job].id,
@@ -51,17 +53,16 @@ fn assert_passes(table: &Table, plan: &[u8], planned: &Planned) {
     assert_eq!(check_plan(&table.write(), plan), Ok(figures), "{table:?}");
 }
 
-#[test]
-fn the_free_order_plan() {
+/// A planner answers as the search does on each table, and a fair share of them has a plan.
+fn assert_as_searched(
+    tables: impl Iterator<Item = Table>,
+    plan: fn(&[u8]) -> Answer,
+    search: fn(&Table) -> Option<Found>,
+) {
     let mut plans = 0;
-    for table in tables(1) {
-        let answer = free(&table.write());
-        assert_eq!(
-            answer,
-            expected(&table, search::free_order(&table)),
-            "{table:?}"
-        );
-        assert_eq!(answer.is_ok(), search::some_timetable(&table), "{table:?}");
+    for table in tables {
+        let answer = plan(&table.write());
+        assert_eq!(answer, expected(&table, search(&table)), "{table:?}");
         if let Ok((plan, planned)) = answer {
             assert_passes(&table, &plan, &planned);
             plans += 1;
@@ -74,24 +75,21 @@ fn the_free_order_plan() {
 }
 
 #[test]
-fn the_given_order_plan() {
-    let mut plans = 0;
-    for table in tables(2) {
-        let answer = given(&table.write());
-        assert_eq!(
-            answer,
-            expected(&table, search::given_order(&table)),
-            "{table:?}"
-        );
-        if let Ok((plan, planned)) = answer {
-            assert_passes(&table, &plan, &planned);
-            plans += 1;
-        }
+fn the_free_order_plan() {
+    assert_as_searched(tables(1), free, search::free_order);
+}
+
+#[test]
+fn a_free_order_plan_exactly_when_some_timetable_meets_the_deadline() {
+    for table in tables(1) {
+        let planned = free(&table.write()).is_ok();
+        assert_eq!(planned, search::some_timetable(&table), "{table:?}");
     }
-    assert!(
-        (TABLES / 4..TABLES * 9 / 10).contains(&plans),
-        "{plans} plans"
-    );
+}
+
+#[test]
+fn the_given_order_plan() {
+    assert_as_searched(tables(2), given, search::given_order);
 }
 
 #[test]

@@ -1,7 +1,7 @@
 -- Every plan that the free-order or the given-order planner writes passes the check, with the same last finish and busy total.
 -- Assumes nothing.
-use mathlib.Core.Path.{_≡_, refl, sym, ap, subst, _∙_}
-use mathlib.Core.List.{List, List·Permᴰ, Permᴰ·symm, Permᴰ·refl}
+use mathlib.Core.Path.{_≡_, sym, subst}
+use mathlib.Core.List.{List, List·Permᴰ, Permᴰ·refl}
 use Prim.Native.Nat.{ℕ}
 use lib.ListN.{length, take}
 use Rattle.model.specs.Timetable.{Chosen}
@@ -11,13 +11,13 @@ use Rattle.model.proofs.PlanOrder.{perm-plan}
 use Rattle.table.specs.Refusals.{accepted}
 use Rattle.table.specs.Tables.{JobTable, readTable}
 use Rattle.table.proofs.Accepted.{accepted-good}
-use Rattle.plan.specs.Plans.{planBytes, readPlan}
+use Rattle.plan.specs.Plans.{planBytes}
 use Rattle.draft.specs.Drafts.{stepsFor}
 use Rattle.planner.specs.declared.Planned.{Planned}
 use Rattle.planner.specs.Answers.{Writes, BestPlan}
 use Rattle.planner.proofs.WrittenPlans.{ReadsBack, free-reads-back, given-reads-back}
 use Rattle.judge.specs.declared.Checked.the-variants.{Passes}
-use Rattle.judge.specs.Check.{afterPlan, afterTable, checkPlan}
+use Rattle.judge.specs.Check.{checkPlan}
 use Rattle.judge.proofs.Runs.{made-passes}
 
 module _ (s : List ℕ) (t : JobTable) (e : readTable s ≡ accepted t) (before : List ℕ) (r : Planned) (after : List ℕ) (xs : List Chosen) (w : Writes xs before r after) where

@@ -7,7 +7,7 @@ use Prim.Native.Nat.{ℕ, zero, suc, _≤_, _<_}
 use native.Mathlib.Omega.{arith}
 use lib.ListN.{length, getD, replicate, length-map, length-append}
 use Rattle.model.specs.declared.Job.{Job}
-use Rattle.model.specs.Lists.{All, filter, total, falling}
+use Rattle.model.specs.Lists.{filter, falling}
 use Rattle.model.specs.Timetable.{isEither, returnTime}
 use Rattle.model.specs.Recurrence.{orderOf}
 use Rattle.model.specs.Positions.{countFrom, noJob, canGoAt, places}

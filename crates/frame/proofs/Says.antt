@@ -1,5 +1,5 @@
 -- Two answers that say the same are equal: an accepted call says 0 first, and no refusal does. Assumes nothing.
-use Prim.Native.Nat.{ℕ, _≤_}
+use Prim.Native.Nat.{ℕ}
 use native.Mathlib.Omega.{arith}
 use mathlib.Core.Path.{_≡_, refl, sym, ap}
 use mathlib.Core.Bool.{Bool, true, false}
@@ -7,7 +7,6 @@ use mathlib.Core.List.{List, [], _∷_}
 use lib.ListN.{getD}
 use Rattle.model.proofs.Lists.{clash}
 use Rattle.table.specs.declared.refusal.Refusal.{Refusal}
-use Rattle.table.specs.Refusals.{refusalSays}
 use Rattle.table.proofs.Refusals.{says-injective, says-numbered}
 use Rattle.frame.specs.Sound.{pick}
 use Rattle.frame.specs.Step.{Said, readingSays, answerSays}

@@ -1,23 +1,23 @@
 -- The two passes that make a free-order plan, each a listing of the jobs that pass a test: the flagged ones in away order, the others in table order.
 -- Assumes nothing.
-use mathlib.Core.Path.{_≡_, refl, sym, ap, subst, _∙_}
+use mathlib.Core.Path.{_≡_, refl, sym, ap, _∙_}
 use mathlib.Core.Bool.{Bool, true, false, not}
-use mathlib.Core.List.{List, [], _∷_, _++_, map, Permᴰ·length-eq}
-use Prim.Native.Nat.{ℕ, zero, suc, _+_, _*_, _≤_, _<_}
+use mathlib.Core.List.{List, [], _∷_, _++_}
+use Prim.Native.Nat.{ℕ, zero, suc, _+_, _≤_, _<_}
 use native.Mathlib.Omega.{arith}
 use lib.ListN.{length, getD, take, length-map, List·getD-map}
 use lib.Seq.{getD-take}
 use Rattle.model.specs.declared.Job.{Job}
 use Rattle.model.specs.Lists.{All, filter}
-use Rattle.model.specs.Timetable.{Chosen, setupTime, here, span}
-use Rattle.model.specs.FreeOrder.{Choice, awayOrder, isAway, plan, busy}
+use Rattle.model.specs.Timetable.{Chosen, here, span}
+use Rattle.model.specs.FreeOrder.{isAway, plan, busy}
 use Rattle.model.specs.Recurrence.{orderOf}
 use Rattle.model.specs.Laying.{chosen}
 use Rattle.model.specs.Positions.{noJob, noChoice, places, choose}
 use Rattle.model.proofs.Lists.{all-at, all-map, map-all}
-use Rattle.model.proofs.Places.{order-places, places-below}
+use Rattle.model.proofs.Places.{places-below}
 use Rattle.model.proofs.Flags.{choose-away, choose-jobs}
-use Rattle.table.specs.Limits.{mostJobs, largestTime}
+use Rattle.table.specs.Limits.{largestTime}
 use Rattle.table.specs.Tables.{TimesOk}
 use Rattle.order.proofs.Ordered.{filter-length}
 use Rattle.choice.specs.declared.Prepared.{Prepared}
@@ -26,7 +26,7 @@ use Rattle.choice.proofs.AwayJobs.{order-jobs, places-few}
 use Rattle.choice.proofs.Held.{held-places, held-jobs}
 use Rattle.draft.specs.declared.Draft.{Draft}
 use Rattle.draft.specs.Drafts.{draftOf, withIf}
-use Rattle.draft.proofs.Drafts.{Roomy, Listing, listing-begin, listing-end, listing-room, listing-more, steps-length}
+use Rattle.draft.proofs.Drafts.{Roomy, Listing, listing-end, listing-room, listing-more, steps-length}
 use Rattle.free.specs.Parts.{inAwayOrder, HereRoom}
 
 -- where a job is listed only if it is away, or only if it is here, its choice is told by that

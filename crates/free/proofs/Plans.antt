@@ -1,18 +1,18 @@
 -- The two parts, one behind the other, are the plan of the best choice.
 -- Assumes nothing.
 use mathlib.Core.Path.{_≡_, refl, sym, ap, _∙_}
-use mathlib.Core.Bool.{Bool, true, false}
-use mathlib.Core.List.{List, [], _∷_, _++_}
-use mathlib.Core.Option.{Option, none, some}
+use mathlib.Core.Bool.{true, false}
+use mathlib.Core.List.{List, [], _++_}
+use mathlib.Core.Option.{some}
 use Prim.Native.Nat.{ℕ, _+_, _≤_}
 use native.Mathlib.Omega.{arith}
 use lib.ListN.{length, length-append}
 use Rattle.model.specs.declared.Job.{Job}
-use Rattle.model.specs.Lists.{All, filter}
+use Rattle.model.specs.Lists.{filter}
 use Rattle.model.specs.Timetable.{Chosen, here, span}
-use Rattle.model.specs.FreeOrder.{Choice, awayOrder, isAway, plan, Best}
+use Rattle.model.specs.FreeOrder.{Choice, isAway, plan, Best}
 use Rattle.model.specs.Recurrence.{Cell, empty, cell, answer}
-use Rattle.model.specs.Positions.{choose, choiceOf, planFound, free}
+use Rattle.model.specs.Positions.{choose, planFound, free}
 use Rattle.model.proofs.Lists.{clash, all-filter}
 use Rattle.model.proofs.Permutations.{length-perm}
 use Rattle.model.proofs.PlanOrder.{perm-plan}

@@ -1,14 +1,14 @@
 -- What the pass over the jobs keeps: the jobs placed so far as a draft, on time, and that what is still to do gives the same as the whole.
 -- Assumes nothing.
-use mathlib.Core.Path.{_≡_, refl, sym, ap, subst, _∙_}
+use mathlib.Core.Path.{_≡_, refl, sym, ap, _∙_}
 use mathlib.Core.Bool.{Bool, true, false}
 use mathlib.Core.List.{List, [], _∷_, _++_, append-assoc, append-nil}
 use mathlib.Core.Option.{Option, none, some}
 use Prim.Native.Nat.{ℕ, _+_, _≤_, _<_}
 use native.Mathlib.Omega.{arith}
 use native.Mathlib.Numerals.{add-one}
-use lib.ListN.{length, getD, take, drop, length-append, drop-of-length-le}
-use lib.Seq.{drop-cons, getD-take, length-take-le}
+use lib.ListN.{length, getD, drop, length-append, drop-of-length-le}
+use lib.Seq.{drop-cons}
 use Rattle.model.specs.declared.Job.{Job}
 use Rattle.model.specs.Timetable.{Chosen, span}
 use Rattle.model.specs.FreeOrder.{busy}
@@ -22,7 +22,6 @@ use Rattle.draft.specs.declared.Draft.{Draft}
 use Rattle.draft.specs.declared.Drafted.{Drafted}
 use Rattle.draft.specs.Drafts.{draftOf, withChosen, draftedOf}
 use Rattle.draft.proofs.Drafts.{draft-more, steps-length}
-use Rattle.given.specs.declared.Decision.{Decision}
 use Rattle.given.specs.declared.Decision.the-variants.{Run, Neither}
 use Rattle.given.specs.Given.{decisionOf}
 

@@ -1,10 +1,8 @@
 -- Two answers of the check that say the same numbers are equal: a pass says 0 first, and no refusal does.
 -- Assumes nothing.
-use Prim.Native.Nat.{ℕ, _≤_}
-use native.Mathlib.Omega.{arith}
+use Prim.Native.Nat.{ℕ}
 use mathlib.Core.Path.{_≡_, sym, ap}
-use mathlib.Core.List.{List, [], _∷_}
-use lib.ListN.{getD}
+use mathlib.Core.List.{[], _∷_}
 use Rattle.table.specs.declared.refusal.Refusal.{Refusal}
 use Rattle.table.specs.Refusals.{refusalSays}
 use Rattle.table.proofs.Refusals.{says-injective, says-not-zero}

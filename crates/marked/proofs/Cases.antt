@@ -1,9 +1,8 @@
 -- How a case is shown: the definitions compute, and the contract allows nothing else.
 -- Assumes nothing.
 use mathlib.Core.Path.{_≡_, refl, sym, ap, _∙_}
-use mathlib.Core.Logic.{_↔_}
 use mathlib.Core.List.{List, [], _∷_, _++_}
-use mathlib.Core.Option.{Option, none, some}
+use mathlib.Core.Option.{none, some}
 use Prim.Native.Nat.{ℕ, suc, _≤_, _<_}
 use native.Mathlib.Omega.{arith}
 use lib.ListN.{length, drop}
@@ -18,14 +17,12 @@ use Rattle.model.proofs.GivenOrder.{given-none-iff, best-in-order-iff}
 use Rattle.model.proofs.LeastDeadline.{turn-least, least-unique, met-mono}
 use Rattle.model.proofs.Free.{free-best, free-none-iff}
 use Rattle.table.specs.declared.refusal.Refusal.the-variants.{None}
-use Rattle.table.specs.Limits.{mostJobs, largestTime, longestPlan}
-use Rattle.table.specs.Refusals.{accepted, refused}
+use Rattle.table.specs.Limits.{mostJobs, largestTime}
+use Rattle.table.specs.Refusals.{accepted}
 use Rattle.table.specs.Tables.{JobTable, readTable}
 use Rattle.table.proofs.Accepted.{accepted-good}
 use Rattle.plan.specs.Plans.{planBytes}
 use Rattle.draft.specs.Drafts.{stepsFor}
-use Rattle.planner.specs.declared.Planned.{Planned}
-use Rattle.planner.specs.declared.Least.{Least}
 use Rattle.planner.specs.Answers as A
 use Rattle.planner.specs.Answers.{BestPlan, FreeAnswer, GivenAnswer, LeastAnswer}
 use Rattle.marked.specs.Marked.{Claimed, plan-is, no-plan, no-given, least-is}

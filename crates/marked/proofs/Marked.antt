@@ -1,11 +1,10 @@
 -- The marked cases hold: one proof for the list.
 -- Assumes nothing.
-use mathlib.Core.Path.{_≡_, refl}
-use mathlib.Core.Bool.{Bool, true, false}
+use mathlib.Core.Path.{refl}
+use mathlib.Core.Bool.{true, false}
 use mathlib.Core.List.{List, [], _∷_}
-use Prim.Native.Nat.{ℕ, _≤_}
+use Prim.Native.Nat.{ℕ}
 use native.Mathlib.Omega.{arith}
-use lib.ListN.{length, getD}
 use Rattle.model.specs.declared.Sending.the-variants.{HereOnly, Either}
 use Rattle.model.specs.declared.Job.{Job}
 use Rattle.model.specs.Timetable.{Chosen}
@@ -17,7 +16,7 @@ use Rattle.frame.specs.Sound.{first, sound?, open?, begun?, ready?, okBegun, ok
 use Rattle.frame.specs.Step.{spanStep, backStep, readOf, whereIs}
 use Rattle.frame.specs.Begin.{beginStep, begun, entriesOf, orderOf, awayIn, filled}
 use Rattle.frame.specs.Run.{after}
-use Rattle.marked.specs.Marked.{Holds, E, marked, AllHold}
+use Rattle.marked.specs.Marked.{E, marked, AllHold}
 use Rattle.marked.proofs.Cases.{plan-case, none-case, given-case, least-case}
 
 abbrev ej : ℕ → ℕ → ℕ → ℕ → Job

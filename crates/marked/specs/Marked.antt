@@ -11,7 +11,7 @@ use Rattle.model.specs.Lists.{All}
 use Rattle.table.specs.declared.refusal.Refusal.{Refusal}
 use Rattle.table.specs.declared.refusal.Refusal.the-variants.{Short, None}
 use Rattle.table.specs.Limits.{longestPlan}
-use Rattle.table.specs.Refusals.{place, refusalSays, refused}
+use Rattle.table.specs.Refusals.{place, refused}
 use Rattle.table.specs.Tables.{readTable}
 use Rattle.planner.specs.declared.Planned.{Planned}
 use Rattle.planner.specs.declared.Least.{Least}

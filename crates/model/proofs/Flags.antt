@@ -3,7 +3,7 @@
 use mathlib.Core.Path.{_≡_, refl, sym, ap, subst, _∙_}
 use mathlib.Core.Bool.{Bool, true, false, cond, not, _||_, false≢true}
 use mathlib.Core.List.{List, [], _∷_, _++_, map, reverse, reverse-cons}
-use Prim.Native.Nat.{ℕ, zero, suc, _+_, _*_, _^_, _/_, _%_, _≤_, _<_}
+use Prim.Native.Nat.{ℕ, zero, suc, _+_, _*_, _^_, _/_, _%_, _<_}
 use native.Mathlib.Omega.{arith}
 use borrow.Author.Tests.{eqb-true, eqb-false}
 use lib.Dec.{T, eqb}
@@ -11,7 +11,7 @@ use lib.ListN.{length, getD, set, length-append}
 use lib.Seq.{getD-set-same, getD-set-other, lt-length-set}
 use Rattle.model.specs.declared.Job.{Job}
 use Rattle.model.specs.Lists.{All, Pairwise}
-use Rattle.model.specs.Timetable.{isEither, Chosen, Allowed, Placed}
+use Rattle.model.specs.Timetable.{isEither, Chosen, Allowed}
 use Rattle.model.specs.FreeOrder.{Choice, awayOrder}
 use Rattle.model.specs.Recurrence.{mask, maskOf}
 use Rattle.model.specs.Positions.{noChoice, canGoAt, places, ofDigits, digits, marked, choose}

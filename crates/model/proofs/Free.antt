@@ -3,20 +3,20 @@
 use mathlib.Core.Path.{_≡_, refl, sym, ap, subst, _∙_}
 use mathlib.Core.Logic.{_↔_}
 use mathlib.Core.Bool.{Bool, true, false, false≢true}
-use mathlib.Core.List.{List, [], _∷_, map, reverse}
-use mathlib.Core.Option.{Option, none, some}
+use mathlib.Core.List.{List, [], _∷_, reverse}
+use mathlib.Core.Option.{none, some}
 use Prim.Native.Nat.{ℕ, zero, suc, _^_, _≤_, _<_}
 use native.Mathlib.Omega.{arith}
 use native.Mathlib.Decide.{ℕ-discrete, decLt}
 use lib.Dec.{T}
 use lib.ListN.{length, getD, set, replicate, length-map, length-reverse, length-replicate, getD-replicate, List·getD-eq-default}
-use lib.Seq.{getD-set-same, getD-set-other}
+use lib.Seq.{getD-set-other}
 use Rattle.model.specs.declared.Job.{Job}
 use Rattle.model.specs.Lists.{All}
 use Rattle.model.specs.Timetable.{Chosen, Met}
 use Rattle.model.specs.FreeOrder.{Choice, awayOrder, plan, busy, Best}
 use Rattle.model.specs.Recurrence.{Cell, empty, cell, answer, maskOf}
-use Rattle.model.specs.Positions.{noChoice, canGoAt, places, digits, marked, choose, choiceOf, planFound, free}
+use Rattle.model.specs.Positions.{noChoice, canGoAt, places, digits, marked, choiceOf, planFound, free}
 use Rattle.model.proofs.Lists.{clash, all-map}
 use Rattle.model.proofs.Workable.{mask-lt}
 use Rattle.model.proofs.Best.{answer-best, best-by-mask, none-iff-no-timetable, best-unique}

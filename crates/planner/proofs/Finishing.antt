@@ -1,8 +1,8 @@
 -- From what was found to the answer and the area: told once for both planners, over what may be found and what it has to be.
 -- Assumes nothing.
 use mathlib.Core.Path.{_≡_, refl, sym, ap, _∙_}
-use mathlib.Core.Bool.{Bool, true, false}
-use mathlib.Core.List.{List, [], _∷_, _++_}
+use mathlib.Core.Bool.{true, false}
+use mathlib.Core.List.{List, _++_}
 use mathlib.Core.Option.{Option, none, some}
 use Prim.Native.Nat.{ℕ, _≤_}
 use native.Mathlib.Omega.{arith}
@@ -14,14 +14,14 @@ use Rattle.table.specs.declared.Table.{Table}
 use Rattle.table.specs.declared.refusal.Refusal.the-variants.{None}
 use Rattle.table.specs.Limits.{mostJobs, longestPlan}
 use Rattle.table.specs.Tables.{jobTable}
-use Rattle.plan.specs.Plans.{planBytes, planOf, stepsOf}
+use Rattle.plan.specs.Plans.{planBytes, stepsOf}
 use Rattle.plan.proofs.Steps.{steps-of-plan}
 use Rattle.draft.specs.declared.Drafted.{Drafted}
 use Rattle.draft.specs.Drafts.{stepsFor, draftedOf}
 use Rattle.draft.proofs.Drafts.{steps-length}
 use Rattle.planner.specs.declared.Planned.{Planned}
 use Rattle.planner.specs.declared.Planned.the-variants.{PlanWritten, NotPlanned}
-use Rattle.planner.specs.Answers.{plannedSays, Refuses, Writes, PlanAnswer, no-plan, planned, Finishes}
+use Rattle.planner.specs.Answers.{PlanAnswer, no-plan, planned, Finishes}
 use Rattle.planner.proofs.Reading.{WholeRead}
 
 module _ (made : Drafted) (o : Option (List Chosen)) (e : made ≡ draftedOf o) (before : List ℕ) where

@@ -1,13 +1,12 @@
 -- Two answers and areas that a planner's contract allows coincide: the contract settles the call.
 -- Assumes nothing.
 use mathlib.Core.Path.{_≡_, refl, sym, ap, _∙_}
-use mathlib.Core.List.{List, [], _∷_}
-use Prim.Native.Nat.{ℕ, _≤_, _<_}
+use mathlib.Core.List.{List}
+use Prim.Native.Nat.{ℕ}
 use native.Mathlib.Omega.{arith}
-use lib.ListN.{length}
 use Rattle.model.specs.declared.Job.{Job}
 use Rattle.model.specs.Timetable.{Chosen, Met}
-use Rattle.model.specs.FreeOrder.{LeastDeadline, plan}
+use Rattle.model.specs.FreeOrder.{plan}
 use Rattle.model.specs.GivenOrder.{MetInOrder, BestInOrder}
 use Rattle.model.proofs.Lists.{clash}
 use Rattle.model.proofs.Timetables.{timetable-iff-workable}
@@ -17,7 +16,7 @@ use Rattle.model.proofs.LeastDeadline.{least-unique, met-mono}
 use Rattle.table.specs.declared.refusal.Refusal.{Refusal}
 use Rattle.table.specs.declared.refusal.Refusal.the-variants.{None, Room}
 use Rattle.table.specs.Limits.{largestTime}
-use Rattle.table.specs.Refusals.{refusalSays, accepted, refused}
+use Rattle.table.specs.Refusals.{refusalSays, accepted}
 use Rattle.table.specs.Tables.{JobTable, readTable}
 use Rattle.table.proofs.Refusals.{says-injective, says-not-zero}
 use Rattle.planner.specs.declared.Planned.{Planned}

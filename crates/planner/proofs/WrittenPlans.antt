@@ -1,15 +1,15 @@
 -- A plan that either planner writes reads back as that plan, and has at most 65 bytes.
 -- Assumes nothing.
 use mathlib.Core.Path.{_≡_, refl, sym, ap, subst, _∙_}
-use mathlib.Core.List.{List, [], _∷_, _++_, map, List·Permᴰ, Permᴰ·symm, Permᴰ·refl}
-use Prim.Native.Nat.{ℕ, _+_, _*_, _≤_}
+use mathlib.Core.List.{List, [], _∷_, map, List·Permᴰ, Permᴰ·symm, Permᴰ·refl}
+use Prim.Native.Nat.{ℕ, _≤_}
 use native.Mathlib.Omega.{arith}
 use lib.ListN.{length, take, drop}
 use lib.Seq.{take-at}
 use Rattle.model.specs.declared.Job.{Job}
-use Rattle.model.specs.Lists.{All, Pairwise}
+use Rattle.model.specs.Lists.{Pairwise}
 use Rattle.model.specs.Timetable.{Chosen}
-use Rattle.model.specs.FreeOrder.{Choice, plan}
+use Rattle.model.specs.FreeOrder.{Choice}
 use Rattle.model.specs.GivenOrder.{BestInOrder}
 use Rattle.model.proofs.Lists.{map-all, pairwise-of-map}
 use Rattle.model.proofs.Permutations.{pairwise-perm}

@@ -3,13 +3,12 @@ use Rattle.free.proofs.Parts.{Prepares, prepares, away-room, away-more,
 use Rattle.free.specs.Parts.{inAwayOrder}
 use Rattle.draft.proofs.Drafts.{Listing, listing-begin}
 use Rattle.choice.proofs.Held.{ready-few, ready-place}
-use Rattle.choice.specs.Choices.{SoundJobs, preparedOf}
+use Rattle.choice.specs.Choices.{SoundJobs}
 use Rattle.model.specs.FreeOrder.{isAway}
 use Rattle.model.specs.declared.Job.{Job}
 use native.Mathlib.Omega.{arith}
-use Prim.Native.Nat.{_-_, _≤_, _<_}
+use Prim.Native.Nat.{_-_, _≤_}
 use mathlib.Core.List.{List, []}
-use mathlib.Core.Path.{_≡_}
 use Rattle.free.proofs.away_part.Statement.{statement}
 use Rattle.free.proofs.away_part.Tie as tie
 

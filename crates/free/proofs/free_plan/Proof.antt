@@ -5,9 +5,8 @@ use Rattle.model.specs.FreeOrder.{isAway}
 use Rattle.model.specs.Lists.{filter}
 use Rattle.table.specs.Tables.{jobTable}
 use Rattle.choice.specs.Choices.{SoundJobs, flagsOf}
-use mathlib.Core.List.{List}
-use mathlib.Core.Bool.{Bool, true, false}
-use mathlib.Core.Path.{_≡_, sym, ap, _∙_}
+use mathlib.Core.Bool.{false}
+use mathlib.Core.Path.{sym, _∙_}
 use Rattle.free.proofs.free_plan.Statement.{statement}
 use Rattle.free.proofs.free_plan.Tie as tie
 

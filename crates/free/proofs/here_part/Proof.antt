@@ -5,9 +5,9 @@ use Rattle.draft.specs.Drafts.{draftOf}
 use Rattle.model.specs.Positions.{choose}
 use Rattle.model.specs.Timetable.{Chosen, here}
 use lib.Seq.{length-take-le}
-use lib.ListN.{length, take, length-map}
+use lib.ListN.{length, take}
 use native.Mathlib.Omega.{arith}
-use Prim.Native.Nat.{_-_, _≤_, _<_}
+use Prim.Native.Nat.{_-_, _≤_}
 use mathlib.Core.List.{List}
 use mathlib.Core.Path.{_≡_}
 use Rattle.free.proofs.here_part.Statement.{statement}

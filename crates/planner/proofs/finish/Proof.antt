@@ -1,7 +1,6 @@
 use borrow.Author.Needs.{needs}
 use Rattle.planner.proofs.Finishing.{finish-none, finish-some}
 use borrow.Author.Tests.{not-true, not-false}
-use mathlib.Core.Bool.{not}
 use Rattle.planner.proofs.finish.Statement.{statement}
 use Rattle.planner.proofs.finish.Tie as tie
 

@@ -2,7 +2,7 @@ use borrow.Author.Needs.{needs}
 use Rattle.planner.proofs.Reading.{read-refused, read-whole}
 use Rattle.table.specs.Tables.{jobTable}
 use Rattle.planner.specs.Answers.{bad-table, never-met, met-from}
-use mathlib.Core.Path.{_≡_, refl}
+use mathlib.Core.Path.{refl}
 use Rattle.planner.proofs.least_deadline.Statement.{statement}
 use Rattle.planner.proofs.least_deadline.Tie as tie
 

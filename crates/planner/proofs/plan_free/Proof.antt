@@ -2,8 +2,7 @@ use borrow.Author.Needs.{needs}
 use Rattle.planner.proofs.Orders.{free-few, free-answered}
 use Rattle.planner.proofs.Reading.{read-refused, read-whole}
 use Rattle.planner.specs.Answers.{no-room, bad-table}
-use native.Mathlib.Omega.{arith}
-use mathlib.Core.Path.{_≡_, refl}
+use mathlib.Core.Path.{refl}
 use Rattle.planner.proofs.plan_free.Statement.{statement}
 use Rattle.planner.proofs.plan_free.Tie as tie
 

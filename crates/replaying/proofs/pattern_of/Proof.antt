@@ -1,7 +1,6 @@
 -- `replaying::pattern_of` is safe: what equals itself is no NaN. Assumes nothing.
 use mathlib.Core.Path.{_≡_, refl}
 use mathlib.Core.Bool.{true, not}
-use lib.Dec.{T}
 use lib.Ieee as Ieee
 use lib.Ieee.{Float, nan, inf, fin}
 use denote.Floats.{passes}

@@ -1,6 +1,6 @@
 -- `replaying::replay` meets its contract: a turn makes one call, and the turns are those of `after` (proofs/Turns.antt). Assumes nothing.
 use Prim.Native.Nat.{_+_, _-_, _≤_}
-use mathlib.Core.Path.{_≡_, sym, ap, _∙_}
+use mathlib.Core.Path.{sym, ap, _∙_}
 use lib.ListN.{length}
 use lib.Seq.{length-take-le}
 use denote.Ref.{now}

@@ -4,7 +4,7 @@ use mathlib.Core.Path.{_≡_, refl, sym, ap, _∙_}
 use mathlib.Core.Bool.{Bool, true, false, cond, not, _&&_}
 use lib.Dec.{eqb}
 use lib.Ieee as Ieee
-use lib.Ieee.{Float, nan, nanBits, ofBits, binary32}
+use lib.Ieee.{nan, nanBits, ofBits, binary32}
 use denote.Floats.{passes}
 use borrow.Author.Tests.{eq-eqb, ne-eqb}
 use Rattle.replaying.specs.Log.{valueOf}
