@@ -91,7 +91,8 @@ pub enum Event {
     Read(u8),
 }
 
-pub enum Found {
+// What a search for a job came to.
+enum Found {
     At(usize),
     Nothing,
 }

@@ -23,13 +23,13 @@ pub enum Checked {
 }
 
 // A job's position in the table.
-pub enum Found {
+enum Found {
     At(usize),
     Nowhere,
 }
 
 // Where the job with this id stands among the first `count`.
-pub fn place_of(jobs: [Job; Table::MOST_JOBS], count: usize, id: u8) -> Found
+fn place_of(jobs: [Job; Table::MOST_JOBS], count: usize, id: u8) -> Found
     requires { ⌜ count ≤ 32 ⌝ }
     ensures { λ r. ⌜ r ≡ placeOf (take count jobs) id ⌝ }
 {

@@ -19,8 +19,9 @@ use Rattle.text.specs.Writing.{Wrote, written}
 use Rattle.text.specs.Decimals.{decimal}
 use Rattle.text.proofs.Writing.{written-length, written-append, written-nil, then}
 use Rattle.listing.specs.Listing.{space, newline, choiceWord, jobLine, pairLine, jobLines, refusedWord, atWord, refusedText}
-use Rattle.listing.specs.declared.Said.{Said}
-use Rattle.listing.specs.Found.{jobWith, chosenBy, chosenFor, placed, saidOf}
+use Rattle.table.specs.declared.refusal.Said.{Said}
+use Rattle.table.specs.Refusals.{saidBy}
+use Rattle.listing.specs.Found.{jobWith, chosenBy, chosenFor, placed}
 
 -- two words, where there is room for both: room for the first, then for the second, and both stand one after the other
 module _ (out : List ℕ) (at : ℕ) (w v : List ℕ) (room : at + length (w ++ v) ≤ length out) where
@@ -52,13 +53,13 @@ job-parts p = simp append-assoc
 in-fours : (a b c d e : List ℕ) → ((a ++ b) ++ (c ++ d)) ++ e ≡ (((a ++ b) ++ c) ++ d) ++ e
 in-fours a b c d e = simp append-assoc
 
-pub refused-placed : (ns : List ℕ) (x : Said) → x ≡ saidOf ns → x .placed ≡ true → refusedText ns ≡ pairLine refusedWord (x .number) atWord (x .place)
+pub refused-placed : (ns : List ℕ) (x : Said) → x ≡ saidBy ns → x .placed ≡ true → refusedText ns ≡ pairLine refusedWord (x .number) atWord (x .place)
 unfolding refusedText pairLine
 refused-placed [] x e h = clash (cc)
 refused-placed (n ∷ []) x e h = clash (cc)
 refused-placed (n ∷ p ∷ rest) x e h = rw e (in-fours refusedWord (decimal n) atWord (decimal p) newline)
 
-pub refused-bare : (ns : List ℕ) (x : Said) → x ≡ saidOf ns → x .placed ≡ false → refusedText ns ≡ (refusedWord ++ decimal (x .number)) ++ newline
+pub refused-bare : (ns : List ℕ) (x : Said) → x ≡ saidBy ns → x .placed ≡ false → refusedText ns ≡ (refusedWord ++ decimal (x .number)) ++ newline
 unfolding refusedText
 refused-bare [] x e h = rw e (ap (λ (l : List ℕ). l ++ newline) (append-nil (refusedWord ++ decimal 0)))
 refused-bare (n ∷ []) x e h = rw e (ap (λ (l : List ℕ). l ++ newline) (append-nil (refusedWord ++ decimal n)))

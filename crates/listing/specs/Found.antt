@@ -18,7 +18,6 @@ use Rattle.plan.specs.Plans.{stepsOf}
 use Rattle.draft.specs.declared.Draft.{Draft}
 use Rattle.draft.specs.declared.Drafted.{Drafted}
 use Rattle.listing.specs.Listing.{firstLine, jobLines, lastLine, refusedText}
-use Rattle.listing.specs.declared.Said.{Said}
 
 -- the first job with this id
 unfoldable pub jobWith : List Job → ℕ → Job
@@ -34,12 +33,6 @@ chosenFor js xs = map (chosenBy js) xs
 
 abbrev pub placed : Job → Bool → ℕ → Placed
 placed j away start = record { what = chosen j away; start = start }
-
--- a refusal's number and, for 1 to 6, its place
-abbrev pub saidOf : List ℕ → Said
-saidOf [] = record { number = 0; placed = false; place = 0 }
-saidOf (n ∷ []) = record { number = n; placed = false; place = 0 }
-saidOf (n ∷ p ∷ rest) = record { number = n; placed = true; place = p }
 
 -- the text of a draft, and of what the planner made
 unfoldable pub draftText : Table → Draft → List ℕ

@@ -7,10 +7,10 @@ use model::Sending;
 use plan::Plan;
 use table::Table;
 use table::TableVerdict;
-use table::refusal::Place;
+use table::refusal;
 use table::refusal::Refusal;
 ghost use mathlib.Core.Path.{_≡_};
-ghost use mathlib.Core.List.{[], _∷_, _++_};
+ghost use mathlib.Core.List.{_++_};
 ghost use Prim.Native.Nat.{_+_, _≤_};
 ghost use lib.ListN.{length};
 ghost use Rattle.model.specs.FreeOrder.{laid};
@@ -19,20 +19,13 @@ ghost use Rattle.table.specs.Tables.{jobTable};
 ghost use Rattle.plan.specs.Plans.{stepsOf};
 ghost use Rattle.text.specs.Decimals.{decimal};
 ghost use Rattle.text.specs.Writing.{Wrote};
-ghost use Rattle.listing.specs.Found.{jobWith, chosenFor, placed, saidOf, draftText, madeText};
+ghost use Rattle.listing.specs.Found.{jobWith, chosenFor, placed, draftText, madeText};
 ghost use Rattle.listing.specs.Listing.{choiceWord, jobLine, pairLine, jobLines, refusedText, Lists};
 
 // The text's length, or no room for the longest text.
 pub enum Listed {
     Text(usize),
     NoRoom,
-}
-
-// A refusal's number and, where it has one, its place.
-struct Said {
-    number: usize,
-    placed: bool,
-    place: usize,
 }
 
 // A word and a number behind it.
@@ -138,58 +131,12 @@ fn put_plan(out: &mut [u8], t: Table, draft: Draft) -> usize
     )
 }
 
-fn at_place(number: usize, p: Place) -> Said
-    ensures { λ r. ⌜ r ≡ saidOf (number ∷ p .at ∷ []) ⌝ }
-{
-    Said {
-        number,
-        placed: true,
-        place: p.at,
-    }
-}
-
-fn no_place(number: usize) -> Said
-    ensures { λ r. ⌜ r ≡ saidOf (number ∷ []) ⌝ }
-{
-    Said {
-        number,
-        placed: false,
-        place: 0,
-    }
-}
-
-// What a refusal says, by document 01's numbers.
-fn numbers_of(f: Refusal) -> Said
-    ensures { λ r. ⌜ r ≡ saidOf (refusalSays f) ⌝ }
-{
-    match f {
-        Refusal::Short(p) => at_place(1, p),
-        Refusal::Kind(p) => at_place(2, p),
-        Refusal::Range(p) => at_place(3, p),
-        Refusal::Many(p) => at_place(4, p),
-        Refusal::Twice(p) => at_place(5, p),
-        Refusal::After(p) => at_place(6, p),
-        Refusal::None => no_place(7),
-        Refusal::Stranger => no_place(8),
-        Refusal::Kept => no_place(9),
-        Refusal::Left => no_place(10),
-        Refusal::Late => no_place(11),
-        Refusal::Phase => no_place(12),
-        Refusal::Number => no_place(13),
-        Refusal::Clock => no_place(14),
-        Refusal::Who => no_place(15),
-        Refusal::Value => no_place(16),
-        Refusal::Early => no_place(17),
-        Refusal::Room => no_place(18),
-    }
-}
-
 // The line of a refusal: its number, and its place if it has one.
 fn put_refused(out: &mut [u8], f: Refusal) -> usize
     requires { ⌜ length (refusedText (refusalSays f)) ≤ length (now out) ⌝ }
     ensures { λ r. ⌜ Wrote (now (out .entry)) 0 (refusedText (refusalSays f)) (now (out .exit)) r ⌝ }
 {
-    let said = numbers_of(f);
+    let said = refusal::numbers_of(f);
     if said.placed {
         return put_pair(out, 0, b"refused ", said.number, b" at ", said.place);
     }

@@ -3,21 +3,13 @@
 use judge::Checked;
 use planner::Least;
 use planner::Planned;
-use table::refusal::Place;
-use table::refusal::Refusal;
+use table::refusal;
 ghost use mathlib.Core.Path.{_≡_};
-ghost use Rattle.table.specs.Refusals.{place};
 ghost use Rattle.planner.specs.declared.Planned.{Planned};
 ghost use Rattle.planner.specs.declared.Least.{Least};
 ghost use Rattle.planner.specs.Answers.{FreeAnswer, GivenAnswer, LeastAnswer};
 ghost use Rattle.judge.specs.Check.{checkPlan};
-ghost use Rattle.panel.specs.Numbers.{refusedNumbers, placedNumbers, plannedNumbers, leastNumbers, checkedNumbers};
-
-#[repr(C)]
-pub struct RefusedNumbers {
-    pub number: u64,
-    pub place: u64,
-}
+ghost use Rattle.panel.specs.Numbers.{plannedNumbers, leastNumbers, checkedNumbers};
 
 #[repr(C)]
 pub struct PlannedNumbers {
@@ -43,46 +35,6 @@ pub struct CheckedNumbers {
     pub busy: u64,
 }
 
-fn placed(number: u64, place: Place) -> RefusedNumbers
-    ensures { λ r. ⌜ r ≡ placedNumbers number place ⌝ }
-{
-    RefusedNumbers {
-        number,
-        place: place.at as u64,
-    }
-}
-
-fn placeless(number: u64) -> RefusedNumbers
-    ensures { λ r. ⌜ r ≡ placedNumbers number (place 0) ⌝ }
-{
-    RefusedNumbers { number, place: 0 }
-}
-
-fn refused_numbers(f: Refusal) -> RefusedNumbers
-    ensures { λ r. ⌜ r ≡ refusedNumbers f ⌝ }
-{
-    match f {
-        Refusal::Short(p) => placed(1, p),
-        Refusal::Kind(p) => placed(2, p),
-        Refusal::Range(p) => placed(3, p),
-        Refusal::Many(p) => placed(4, p),
-        Refusal::Twice(p) => placed(5, p),
-        Refusal::After(p) => placed(6, p),
-        Refusal::None => placeless(7),
-        Refusal::Stranger => placeless(8),
-        Refusal::Kept => placeless(9),
-        Refusal::Left => placeless(10),
-        Refusal::Late => placeless(11),
-        Refusal::Phase => placeless(12),
-        Refusal::Number => placeless(13),
-        Refusal::Clock => placeless(14),
-        Refusal::Who => placeless(15),
-        Refusal::Value => placeless(16),
-        Refusal::Early => placeless(17),
-        Refusal::Room => placeless(18),
-    }
-}
-
 fn planned_numbers(answer: Planned) -> PlannedNumbers
     ensures { λ r. ⌜ r ≡ plannedNumbers answer ⌝ }
 {
@@ -95,10 +47,10 @@ fn planned_numbers(answer: Planned) -> PlannedNumbers
             last: last as u64,
         },
         Planned::NotPlanned(f) => {
-            let why = refused_numbers(f);
+            let why = refusal::numbers_of(f);
             PlannedNumbers {
-                number: why.number,
-                place: why.place,
+                number: why.number as u64,
+                place: why.place as u64,
                 length: 0,
                 busy: 0,
                 last: 0,
@@ -132,10 +84,10 @@ pub extern "C" fn zb_least_deadline(table: &[u8]) -> LeastNumbers
             deadline: d as u64,
         },
         Least::NoDeadline(f) => {
-            let why = refused_numbers(f);
+            let why = refusal::numbers_of(f);
             LeastNumbers {
-                number: why.number,
-                place: why.place,
+                number: why.number as u64,
+                place: why.place as u64,
                 deadline: 0,
             }
         }
@@ -154,10 +106,10 @@ pub extern "C" fn zb_check_plan(table: &[u8], plan: &[u8]) -> CheckedNumbers
             busy: busy as u64,
         },
         Checked::Fails(f) => {
-            let why = refused_numbers(f);
+            let why = refusal::numbers_of(f);
             CheckedNumbers {
-                number: why.number,
-                place: why.place,
+                number: why.number as u64,
+                place: why.place as u64,
                 last: 0,
                 busy: 0,
             }

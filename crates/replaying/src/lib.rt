@@ -6,7 +6,7 @@ use frame::Event;
 use frame::Frame;
 use frame::Reading;
 use frame::Step;
-use table::refusal::Place;
+use table::refusal;
 use table::refusal::Refusal;
 ghost use mathlib.Core.Path.{_≡_};
 ghost use Prim.Native.Nat.{_+_, _<_, _≤_};
@@ -175,42 +175,16 @@ fn write_word(kind: u32) {
     }
 }
 
-fn write_refused(number: u64) {
-    io::write_all(1, b"refused ");
-    io::print_decimal(1, number);
-    io::write_all(1, b"\n");
-}
-
-fn write_refused_at(number: u64, p: Place) {
-    io::write_all(1, b"refused ");
-    io::print_decimal(1, number);
-    io::write_all(1, b" at ");
-    io::print_decimal(1, p.at as u64);
-    io::write_all(1, b"\n");
-}
-
 // A refusal by document 01's numbers, with its place where it has one.
 fn write_refusal(f: Refusal) {
-    match f {
-        Refusal::Short(p) => write_refused_at(1, p),
-        Refusal::Kind(p) => write_refused_at(2, p),
-        Refusal::Range(p) => write_refused_at(3, p),
-        Refusal::Many(p) => write_refused_at(4, p),
-        Refusal::Twice(p) => write_refused_at(5, p),
-        Refusal::After(p) => write_refused_at(6, p),
-        Refusal::None => write_refused(7),
-        Refusal::Stranger => write_refused(8),
-        Refusal::Kept => write_refused(9),
-        Refusal::Left => write_refused(10),
-        Refusal::Late => write_refused(11),
-        Refusal::Phase => write_refused(12),
-        Refusal::Number => write_refused(13),
-        Refusal::Clock => write_refused(14),
-        Refusal::Who => write_refused(15),
-        Refusal::Value => write_refused(16),
-        Refusal::Early => write_refused(17),
-        Refusal::Room => write_refused(18),
+    let said = refusal::numbers_of(f);
+    io::write_all(1, b"refused ");
+    io::print_decimal(1, said.number as u64);
+    if said.placed {
+        io::write_all(1, b" at ");
+        io::print_decimal(1, said.place as u64);
     }
+    io::write_all(1, b"\n");
 }
 
 fn write_reading(r: Reading) {

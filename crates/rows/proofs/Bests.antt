@@ -1,21 +1,21 @@
 -- The best of one column more: the better of what was found before it and the column with its setup total and the base.
 -- Assumes nothing.
-use mathlib.Core.Path.{_≡_, sym, subst}
+use mathlib.Core.Path.{_≡_, sym, ap, subst, _∙_}
 use mathlib.Core.Logic.{inl, inr}
 use mathlib.Core.List.{List}
 use Prim.Native.Nat.{ℕ, suc, _+_, _*_, _≤_}
 use native.Mathlib.Omega.{arith}
 use lib.ListN.{length, getD}
 use Rattle.model.specs.declared.Job.{Job}
-use Rattle.model.specs.Recurrence.{Cell, shift, row, bestBelow, Holds}
+use Rattle.model.specs.Recurrence.{Cell, empty, cell, shift, row, bestBelow, Holds}
 use Rattle.model.proofs.Bounds.{row-bounds}
 use Rattle.model.proofs.Held.{shift-held, pick-first, pick-second}
 use Rattle.rows.specs.declared.Choice.{Choice}
 use Rattle.rows.specs.Rows.{nothing}
-use Rattle.rows.specs.Columns.{Rows, Better}
+use Rattle.rows.specs.Columns.{Rows, Better, Single}
 
 -- a choice holds a cell
-abbrev HeldBy : Cell → Choice → Type 0
+abbrev pub HeldBy : Cell → Choice → Type 0
 HeldBy c r = Holds nothing (r .total) (r .mask) c
 
 pub best-next : (D : ℕ) (os : List Job) (base t : ℕ) (ts ms : List ℕ) (found next r : Choice) → Rows D os ts ms → length os ≤ 32 → base ≤ 32 * 4000 → D ≤ 4000 → t ≤ D
@@ -38,3 +38,25 @@ best-next D os base t ts ms found next r w few based deadline h p q better held 
     pass (inr (e, l)) =
         subst (HeldBy (bestBelow D os base (suc t))) (sym e)
         (pick-first nothing (found .total) (found .mask) (next .total) (next .mask) (bestBelow D os base t) (shift (t + base) 0 (row D os t)) held column l)
+
+-- of two choices neither of which stands for nothing but as the one choice, the better one does so too
+pub single-next : (found next r : Choice) → Better found next r → Single found → Single r
+single-next found next r (inl (e, inl l)) (low, zero) =
+    subst Single (sym e) (omega arith, λ n. absurd (omega arith))
+single-next found next r (inl (e, inr (t, l))) (low, zero) =
+    subst Single (sym e) (omega arith, λ n. absurd (omega (arith, zero (t' n))))
+  where
+    t' : next .total ≡ nothing → found .total ≡ nothing
+    t' n = sym t ∙ n
+single-next found next r (inr (e, l)) single = subst Single (sym e) single
+
+-- two choices that hold the same cell so are the same: what the least of all columns is, is settled
+pub least-settled : (c : Cell) (r q : Choice) → Single r × HeldBy c r → Single q × HeldBy c q → r ≡ q
+least-settled empty r q ((rl, rz), rh) ((ql, qz), qh) =
+    let x : r .total ≡ nothing = omega arith in
+    let y : q .total ≡ nothing = omega arith in
+    choice-path r q (x ∙ sym y) (rz x ∙ sym (qz y))
+  where
+    choice-path : (r q : Choice) → r .total ≡ q .total → r .mask ≡ q .mask → r ≡ q
+    choice-path r q e f = λ i. record { total = e i; mask = f i }
+least-settled (cell a m) r q (rs, rh) (qs, qh) = λ i. record { total = (rh .0 ∙ sym (qh .0)) i; mask = (rh .1 ∙ sym (qh .1)) i }

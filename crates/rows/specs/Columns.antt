@@ -82,3 +82,7 @@ abbrev pub Better : Choice → Choice → Choice → Type 0
 Better best next r =
     ((r ≡ next) × ((next .total < best .total) ⊎ ((next .total ≡ best .total) × (next .mask < best .mask))))
     ⊎ ((r ≡ best) × ((best .total < next .total) ⊎ ((best .total ≡ next .total) × (best .mask ≤ next .mask))))
+
+-- the total is `nothing` at most, and with `nothing` itself goes the mask 0: one choice stands for nothing
+abbrev pub Single : Choice → Type 0
+Single r = (r .total ≤ nothing) × (r .total ≡ nothing → r .mask ≡ 0)

@@ -11,7 +11,7 @@ ghost use Rattle.model.specs.Recurrence.{Holds, bestBelow};
 ghost use Rattle.model.specs.Timetable.{setupTime, returnTime};
 ghost use Rattle.table.specs.Limits.{mostJobs, largestTime};
 ghost use Rattle.rows.specs.Rows.{nothing, Ready};
-ghost use Rattle.rows.specs.Columns.{Fit, Kept, Sent, RoomFor, Stepped, Rows, lower, Better};
+ghost use Rattle.rows.specs.Columns.{Fit, Kept, Sent, RoomFor, Stepped, Rows, lower, Better, Single};
 
 // A total of 1,000,000 or more stands for nothing: no choice of the jobs so far has this setup total.
 const NOTHING: u32 = 1_000_000;
@@ -121,7 +121,7 @@ fn better(best: Choice, next: Choice) -> Choice
 // The best of all columns 0..=d, each with its setup total and `base` added.
 fn best(totals: &[u32; 4001], masks: &[u32; 4001], d: usize, base: u32) -> Choice
     requires { ⌜ (length (now totals) ≡ 4001) × (length (now masks) ≡ 4001) × (d ≤ largestTime) × (base ≤ mostJobs * largestTime) × Fit (d + 1) (largestTime + base) (now totals) ⌝ }
-    ensures { λ r. ⌜ ((os : List Job) → Rows d os (now (totals .entry)) (now (masks .entry)) → length os ≤ mostJobs → Holds nothing (r .total) (r .mask) (bestBelow d os base (suc d))) ⌝ }
+    ensures { λ r. ⌜ Single r × ((os : List Job) → Rows d os (now (totals .entry)) (now (masks .entry)) → length os ≤ mostJobs → Holds nothing (r .total) (r .mask) (bestBelow d os base (suc d))) ⌝ }
 {
     let mut found = Choice {
         total: NOTHING,
@@ -140,7 +140,7 @@ fn best(totals: &[u32; 4001], masks: &[u32; 4001], d: usize, base: u32) -> Choic
 // The least (busy total, mask) over all setup totals 0..=d of the `count` jobs in away order, `base` being what stays here in any case.
 pub fn least(d: usize, base: u32, jobs: [Job; Table::MOST_JOBS], count: usize) -> Choice
     requires { ⌜ Ready d base jobs count ⌝ }
-    ensures { λ r. ⌜ Holds nothing (r .total) (r .mask) (bestBelow d (reverse (take count jobs)) base (suc d)) ⌝ }
+    ensures { λ r. ⌜ Single r × Holds nothing (r .total) (r .mask) (bestBelow d (reverse (take count jobs)) base (suc d)) ⌝ }
 {
     let mut totals = [NOTHING; 4001];
     let mut masks = [0u32; 4001];

@@ -1,8 +1,10 @@
 -- Document 01, 'Refusal numbers': what each refusal says to the caller, its number and its values.
 -- Assumes nothing.
 use Prim.Native.Nat.{ℕ}
+use mathlib.Core.Bool.{true, false}
 use mathlib.Core.List.{List, [], _∷_}
 use Rattle.table.specs.declared.refusal.Place.{Place}
+use Rattle.table.specs.declared.refusal.Said.{Said}
 use Rattle.table.specs.declared.refusal.Refusal.{Refusal}
 use Rattle.table.specs.declared.refusal.Refusal.the-variants.{Short, Kind, Range, Many, Twice, After, None, Stranger, Kept, Left, Late, Phase, Number, Clock, Who, Value, Early, Room}
 
@@ -29,6 +31,12 @@ refusalSays Who = 15 ∷ []
 refusalSays Value = 16 ∷ []
 refusalSays Early = 17 ∷ []
 refusalSays Room = 18 ∷ []
+
+-- the same as `numbers_of` answers it; where there is no place, 0 stands
+abbrev pub saidBy : List ℕ → Said
+saidBy [] = record { number = 0; placed = false; place = 0 }
+saidBy (n ∷ []) = record { number = n; placed = false; place = 0 }
+saidBy (n ∷ p ∷ rest) = record { number = n; placed = true; place = p }
 
 -- What bytes or a call come to: accepted with what they mean, or refused.
 pub data Outcome (A : Type 0) : Type 0 where

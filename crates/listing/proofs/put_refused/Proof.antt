@@ -6,11 +6,10 @@ use Prim.Native.Nat.{ℕ, _+_, _≤_}
 use native.Mathlib.Omega.{arith}
 use denote.Ref.{now}
 use lib.ListN.{length}
-use Rattle.table.specs.Refusals.{refusalSays}
+use Rattle.table.specs.Refusals.{refusalSays, saidBy}
 use Rattle.text.specs.Decimals.{decimal}
-use Rattle.listing.specs.declared.Said.{Said}
+use Rattle.table.specs.declared.refusal.Said.{Said}
 use Rattle.listing.specs.Listing.{refusedWord, newline}
-use Rattle.listing.specs.Found.{saidOf}
 use Rattle.listing.proofs.Lines.{room-first, room-next, both, refused-placed, refused-bare}
 use borrow.Author.Needs.{needs}
 use Rattle.listing.proofs.put_refused.Statement.{statement}
@@ -20,7 +19,7 @@ use Rattle.listing.proofs.put_refused.Tie as tie
 abbrev field : Said → List ℕ
 field said = refusedWord ++ decimal (said .number)
 
-bare-room : (s : tie.Start) (said : Said) → said ≡ saidOf (refusalSays (s .args .f)) → said .placed ≡ false → 0 + length (field said ++ newline) ≤ length (now (s .args .out))
+bare-room : (s : tie.Start) (said : Said) → said ≡ saidBy (refusalSays (s .args .f)) → said .placed ≡ false → 0 + length (field said ++ newline) ≤ length (now (s .args .out))
 bare-room s said e h = omega (arith, s .pre, ap length (refused-bare (refusalSays (s .args .f)) said e h))
 
 numbers-of-requires : tie.Need-numbers-of-requires

@@ -15,14 +15,14 @@ cast-t10 c = search needs
 enum-known-answer-2 : tie.Need-enum-known-answer-2
 enum-known-answer-2 c = search needs
 
-refused-numbers-requires : tie.Need-refused-numbers-requires
-refused-numbers-requires c κs = search needs
+numbers-of-requires : tie.Need-numbers-of-requires
+numbers-of-requires c κs = search needs
 
 returns : tie.Need-returns
 returns c = rw (c .before .answer .given .1) refl
 
 returns-2 : tie.Need-returns-2
-returns-2 c = rw (c .before .before .answer2 .given .1, c .refused-numbers .ensures) refl
+returns-2 c = rw (c .before .before .answer2 .given .1, c .numbers-of .ensures) refl
 
 pub planned-numbers-spec : {M : Type 1} → statement M
 planned-numbers-spec =
@@ -32,6 +32,6 @@ planned-numbers-spec =
     cast-t9
     cast-t10
     enum-known-answer-2
-    refused-numbers-requires
+    numbers-of-requires
     returns
     returns-2)

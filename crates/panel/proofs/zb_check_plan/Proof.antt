@@ -18,14 +18,14 @@ cast-t10 c = search needs
 enum-known-f : tie.Need-enum-known-f
 enum-known-f c = search needs
 
-refused-numbers-requires : tie.Need-refused-numbers-requires
-refused-numbers-requires c κs = search needs
+numbers-of-requires : tie.Need-numbers-of-requires
+numbers-of-requires c κs = search needs
 
 returns : tie.Need-returns
 returns c = rw (← c .before .before .before .check-plan .ensures, c .before .last .given .1) refl
 
 returns-2 : tie.Need-returns-2
-returns-2 c = rw (← c .before .before .before .before .check-plan .ensures, c .before .before .f .given .1, c .refused-numbers .ensures) refl
+returns-2 c = rw (← c .before .before .before .before .check-plan .ensures, c .before .before .f .given .1, c .numbers-of .ensures) refl
 
 pub zb-check-plan-spec : {M : Type 1} → statement M
 zb-check-plan-spec =
@@ -36,6 +36,6 @@ zb-check-plan-spec =
     cast-t9
     cast-t10
     enum-known-f
-    refused-numbers-requires
+    numbers-of-requires
     returns
     returns-2)

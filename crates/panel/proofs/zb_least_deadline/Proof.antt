@@ -15,14 +15,14 @@ cast-t7 c = search needs
 enum-known-f : tie.Need-enum-known-f
 enum-known-f c = search needs
 
-refused-numbers-requires : tie.Need-refused-numbers-requires
-refused-numbers-requires c κs = search needs
+numbers-of-requires : tie.Need-numbers-of-requires
+numbers-of-requires c κs = search needs
 
 returns : tie.Need-returns
 returns c = (c .before .before .before .least-deadline .result, c .before .before .before .least-deadline .ensures, rw (c .before .d .given .1) refl)
 
 returns-2 : tie.Need-returns-2
-returns-2 c = (c .before .before .before .before .least-deadline .result, c .before .before .before .before .least-deadline .ensures, rw (c .before .before .f .given .1, c .refused-numbers .ensures) refl)
+returns-2 c = (c .before .before .before .before .least-deadline .result, c .before .before .before .before .least-deadline .ensures, rw (c .before .before .f .given .1, c .numbers-of .ensures) refl)
 
 pub zb-least-deadline-spec : {M : Type 1} → statement M
 zb-least-deadline-spec =
@@ -32,6 +32,6 @@ zb-least-deadline-spec =
     enum-known-d
     cast-t7
     enum-known-f
-    refused-numbers-requires
+    numbers-of-requires
     returns
     returns-2)

@@ -10,8 +10,8 @@ use lib.ListN.{length}
 use Rattle.model.specs.declared.Job.{Job}
 use Rattle.model.specs.Recurrence.{Holds, bestBelow}
 use Rattle.rows.specs.Rows.{nothing}
-use Rattle.rows.specs.Columns.{Rows}
-use Rattle.rows.proofs.Bests.{best-next}
+use Rattle.rows.specs.Columns.{Rows, Single}
+use Rattle.rows.proofs.Bests.{best-next, single-next}
 use Rattle.rows.proofs.best.Statement.{statement}
 use Rattle.rows.proofs.best.Tie as tie
 
@@ -19,6 +19,7 @@ abbrev Inv-loop : tie.InvT-loop
 Inv-loop totals masks d base found₀ t₀ t-end found t =
     (t-end ≡ d + 1)
     × (t ≤ d + 1)
+    × Single found
     × ((os : List Job) → Rows d os totals masks → length os ≤ 32 → Holds nothing (found .total) (found .mask) (bestBelow d os base t))
 
 abbrev μ-loop : tie.MeasureT-loop
@@ -28,7 +29,7 @@ add-t-end : tie.Need-add-t-end Inv-loop μ-loop
 add-t-end c = search needs
 
 loop-holds : tie.Need-loop-holds Inv-loop μ-loop
-loop-holds c = (omega arith, omega arith, (λ os r h. omega arith))
+loop-holds c = (omega arith, omega arith, (omega arith, λ e. refl), (λ os r h. omega arith))
 
 mul-t10 : tie.Need-mul-t10 Inv-loop μ-loop
 mul-t10 c = search needs
@@ -64,13 +65,14 @@ loop-again : tie.Need-loop-again Inv-loop μ-loop
 loop-again c = (
   refl,
   omega arith,
-  (λ os r h. rw add-one (best-next _ os _ _ _ _ _ _ _ r h (c .before .before .before .before .before .pre .3) (c .before .before .before .before .before .pre .2) (omega arith) refl refl (c .better .ensures) (c .before .before .before .before .loop .inv .2 os r h))),
+  single-next _ _ _ (c .better .ensures) (c .before .before .before .before .loop .inv .2),
+  (λ os r h. rw add-one (best-next _ os _ _ _ _ _ _ _ r h (c .before .before .before .before .before .pre .3) (c .before .before .before .before .before .pre .2) (omega arith) refl refl (c .better .ensures) (c .before .before .before .before .loop .inv .3 os r h))),
 )
 
 returns : tie.Need-returns Inv-loop μ-loop
 returns c =
     let e : c .before .loop .t ≡ suc (c .before .before .args .d) = omega arith in
-    λ os r h. rw e at (c .before .loop .inv .2 os r h)
+    (c .before .loop .inv .2, λ os r h. rw e at (c .before .loop .inv .3 os r h))
 
 pub best-spec : {M : Type 1} → statement M
 best-spec =

@@ -66,7 +66,7 @@ returns : tie.Need-returns Inv-loop μ-loop
 returns c =
     let e : c .before .before .before .before .loop .k ≡ c .before .before .before .before .before .args .count = omega arith in
     let l = taken-length (c .before .before .before .before .before .args .t3) (c .before .before .before .before .loop .k) (omega (arith, c .before .before .before .before .before .good .1 .1 .0 .1 .0 .1)) in
-    rw e at (c .best .ensures _ (c .before .before .before .before .loop .inv .1) (omega arith))
+    (c .best .ensures .0, rw e at (c .best .ensures .1 _ (c .before .before .before .before .loop .inv .1) (omega arith)))
 
 pub least-spec : {M : Type 1} → statement M
 least-spec =
