@@ -12,12 +12,14 @@ use Rattle.model.specs.FreeOrder.{LeastDeadline}
 use Rattle.model.specs.Recurrence.{Cell, empty, cell, cap, bestBelow, orderOf, base, answer, Holds}
 use Rattle.model.proofs.Lists.{clash}
 use Rattle.model.proofs.Best.{none-iff-no-timetable}
-use Rattle.model.proofs.LeastDeadline.{turn-least, met-dec}
+use Rattle.model.proofs.LeastDeadline.{turn-least, met-dec, met-mono, least-unique}
 use Rattle.rows.specs.Rows.{nothing}
 use Rattle.table.specs.Limits.{largestTime}
 use Rattle.choice.specs.declared.Prepared.{Prepared}
 use Rattle.choice.specs.declared.Found.the-variants.{Mask, Nothing}
-use Rattle.choice.specs.Choices.{preparedOf, foundOf}
+use Rattle.choice.specs.declared.EarliestMet.{EarliestMet}
+use Rattle.choice.specs.declared.EarliestMet.the-variants.{MetAt, NeverMet}
+use Rattle.choice.specs.Choices.{preparedOf, foundOf, IsEarliest}
 use Rattle.choice.proofs.Held.{held-jobs}
 
 mask-of : (d x y : ℕ) (c : Cell) → d ≤ 4000 → Holds nothing x y c → x ≤ d → Mask y ≡ foundOf (cap d c)
@@ -69,3 +71,10 @@ pub closed : (p : Prepared) (low high : ℕ) → Between p low high → high - l
 closed p low high b h js held =
     let n : high ≡ suc low = omega (arith, b .apart) in
     rw n (turn-least js largestTime low (omega (arith, b .within)) (b .unmet js held) (rw n at (b .met js held)))
+
+-- what the bisection may answer is one deadline, or never
+pub earliest-settled : (js : List Job) (r q : EarliestMet) → IsEarliest js r → IsEarliest js q → r ≡ q
+earliest-settled js (MetAt d) (MetAt e) h k = ap MetAt (least-unique js largestTime d e h k)
+earliest-settled js (MetAt d) NeverMet h k = absurd (k (met-mono js d largestTime (h .high) (h .met)))
+earliest-settled js NeverMet (MetAt e) h k = absurd (h (met-mono js e largestTime (k .high) (k .met)))
+earliest-settled js NeverMet NeverMet h k = refl

@@ -7,12 +7,14 @@ use mathlib.Core.Bool.{Bool, true, false, cond}
 use mathlib.Core.Logic.{inl, inr}
 use mathlib.Core.List.{List, [], _∷_, map}
 use mathlib.Core.Option.{some}
+use lib.Dec.{eqb}
 use lib.ListN.{length, getD, length-map}
+use borrow.Author.Tests.{eqb-true}
 use Rattle.model.specs.declared.Job.{Job}
 use Rattle.model.specs.Lists.{All, Pairwise}
 use Rattle.model.specs.Positions.{noJob}
 use Rattle.model.specs.Timetable.{Chosen}
-use Rattle.model.proofs.Lists.{clash, all-map, map-all}
+use Rattle.model.proofs.Lists.{clash, all-map, map-all, all-at}
 use Rattle.table.specs.Refusals.{Outcome, accepted, refused}
 use Rattle.table.specs.Tables.{JobTable, GoodTable}
 use Rattle.table.specs.declared.refusal.Refusal.the-variants.{Left}
@@ -21,25 +23,17 @@ use Rattle.plan.specs.Plans.{stepId, noStep, stepAt, readPlan}
 use Rattle.plan.proofs.Plans.{accepted-plan, step-at}
 use Rattle.draft.specs.Drafts.{stepOf}
 use Rattle.judge.specs.declared.Checked.the-variants.{Passes, Fails}
-use Rattle.judge.specs.declared.Found.{Found}
-use Rattle.judge.specs.declared.Found.the-variants.{At, Nowhere}
-use Rattle.judge.specs.Check.{jobOf, placeOf, listed, lacksOne, timed, afterListed, afterPlan}
-use Rattle.judge.proofs.Places.{place-tells, place-none}
-use Rattle.judge.proofs.Jobs.{Lists, job-tells, listed-tells, all-or-left}
+use Rattle.judge.specs.Check.{jobOf, listed, lacksOne, timed, afterListed, afterPlan}
+use Rattle.judge.proofs.Jobs.{Lists, listed-tells, all-or-left}
 use Rattle.frame.specs.Begin.{stepsIn}
 
 -- ---- elements by position
 
 module _ {A : Type 0} (d : A) where
-  pub all-at : (P : A → Type 0) (xs : List A) → All P xs → (k : ℕ) → k < length xs → P (getD xs k d)
-  all-at P [] a k h = absurd (omega arith)
-  all-at P (x ∷ xs) a zero h = a .0
-  all-at P (x ∷ xs) a (suc k) h = all-at P xs (a .1) k (omega arith)
-
   pub pairwise-at : (R : A → A → Type 0) (xs : List A) → Pairwise R xs → (i k : ℕ) → i < k → k < length xs → R (getD xs i d) (getD xs k d)
   pairwise-at R [] p i k h b = absurd (omega arith)
   pairwise-at R (x ∷ xs) p i zero h b = absurd (omega arith)
-  pairwise-at R (x ∷ xs) p zero (suc k) h b = all-at (R x) xs (p .0) k (omega arith)
+  pairwise-at R (x ∷ xs) p zero (suc k) h b = all-at (R x) xs d (p .0) k (omega arith)
   pairwise-at R (x ∷ xs) p (suc i) (suc k) h b = pairwise-at R xs (p .1) i k (omega arith) (omega arith)
 
 -- ---- the steps of a plan, read where they stand
@@ -59,11 +53,14 @@ pub record JobFor (js : List Job) (id : ℕ) : Type 0 where
   pub inside : at < length js
   pub same-id : (getD js at noJob) .id ≡ id
 
-job-for : (js : List Job) (id : ℕ) (j : Job) → jobOf js id ≡ some j → (w : Found) → placeOf js id ≡ w → JobFor js id
-job-for js id j e (At i) p =
-    let r = place-tells js id i p in
-    record { at = i; inside = r .0; same-id = job-tells js id (getD js i noJob) (r .1) .1 }
-job-for js id j e Nowhere p = let n = place-none js id p in clash (cc)
+job-for : (js : List Job) (id : ℕ) (j : Job) → jobOf js id ≡ some j → JobFor js id
+unfolding jobOf
+job-for [] id j e = clash (cc)
+job-for (x ∷ js) id j e = step (eqb (x .id) id) refl e (job-for js id j)
+  where
+    step : (b : Bool) → eqb (x .id) id ≡ b → cond b (some x) (jobOf js id) ≡ some j → (jobOf js id ≡ some j → JobFor js id) → JobFor (x ∷ js) id
+    step true q e on = record { at = 0; inside = omega arith; same-id = eqb-true (x .id) id q }
+    step false q e on = let r = on e in record { at = suc (r .at); inside = omega (arith, r .inside); same-id = r .same-id }
 
 pub record Passed (t : JobTable) (xs : List plan.Step) : Type 0 where
   pub good : GoodTable t
@@ -85,14 +82,14 @@ module _ (t : JobTable) (good : GoodTable t) (s : List ℕ) (xs : List plan.Step
       ]
 
   named-of : (cs : List Chosen) → Lists js xs cs → All (λ (x : plan.Step). JobFor js (x .id)) xs
-  named-of cs l = rw (← l .steps) (map-all stepOf (λ (x : plan.Step). JobFor js (x .id)) cs (all-map (λ c e. job-for js (c .job .id) (c .job) e (placeOf js (c .job .id)) refl) cs (l .named)))
+  named-of cs l = rw (← l .steps) (map-all stepOf (λ (x : plan.Step). JobFor js (x .id)) cs (all-map (λ c e. job-for js (c .job .id) (c .job) e) cs (l .named)))
 
   passed-of : (cs : List Chosen) → Lists js xs cs → (b : Bool) → lacksOne js (map stepId xs) ≡ b → cond b (Fails Left) (timed (t .deadline) cs) ≡ Passes last busy → Passed t xs
   passed-of cs l true e p = clash (cc)
   passed-of cs l false e p = record {
     good = good;
     enough = enough-of cs l e;
-    named = λ k h. all-at noStep (λ (x : plan.Step). JobFor js (x .id)) xs (named-of cs l) k h;
+    named = λ k h. all-at (λ (x : plan.Step). JobFor js (x .id)) xs noStep (named-of cs l) k h;
     steps-differ = λ i k h b. pairwise-at noStep (λ (x y : plan.Step). ¬ (x .id ≡ y .id)) xs (accepted-plan s xs read .1) i k h b;
     jobs-differ = λ i k h b. pairwise-at noJob (λ (x y : Job). ¬ (x .id ≡ y .id)) js (good .distinct) i k h b;
   }

@@ -92,7 +92,7 @@ pub enum Event {
 }
 
 // What a search for a job came to.
-enum Found {
+pub enum Found {
     At(usize),
     Nothing,
 }

@@ -6,6 +6,7 @@ use mathlib.Core.Path.{_≡_, refl, sym, _∙_, ap, subst}
 use mathlib.Core.Bool.{Bool, true, false}
 use mathlib.Core.List.{List, [], _∷_, map, List·Memᴰ, List·Memᴰ·head, List·Memᴰ·tail, Memᴰ·of-map, Permᴰ·symm, Permᴰ·map}
 use lib.ListN.{length}
+use Rattle.model.proofs.Lists.{all-at}
 use Rattle.model.specs.declared.Job.{Job}
 use Rattle.model.specs.Lists.{All}
 use Rattle.model.specs.Timetable.{Chosen}
@@ -22,7 +23,6 @@ use Rattle.frame.specs.declared.Frame.{Frame}
 use Rattle.frame.specs.declared.Answer.the-variants.{Done}
 use Rattle.frame.specs.declared.Event.the-variants as E
 use Rattle.frame.specs.declared.Step.{Step}
-use Rattle.frame.proofs.Passed.{all-at}
 use Rattle.frame_own.specs.Own.{Passing, Doing, runOf, noDoing, doingAt, jobAt, idAt, awayAt, valueAt, spanTime, backTime, Quiet, spanCall, backCall, Plays, over, quiet, spans, backs, AllDone, own, OwnValues, EachOwn}
 use Rattle.frame_own.proofs.Moves.{planEntry, close-done, read-open, read-closed, quiet-calls}
 use Rattle.frame_own.proofs.Going.{Going, few-ended, span-goes, back-goes}
@@ -129,7 +129,7 @@ own-value {table} {plan} {t} {cs} w s number begun ds run finite {calls} p =
     let g = subst (λ (x : Step). Going number (t .deadline) ds 0 [] 0 (x .frame)) (sym opened) (opens w ds run number) in
     let D = t .deadline in
     let fits : (k : ℕ) → k < length ds → backTime ds k ≤ D = λ k h. omega (arith, finish-fits D 0 ds (on-time w (runOf ds) run) k h) in
-    let values = all-at noDoing (λ (d : Doing). finite? (d .value) ≡ true) ds finite in
+    let values = all-at (λ (d : Doing). finite? (d .value) ≡ true) ds noDoing finite in
     let r = runs number D ds fits values p g (turn s (begin table plan number)) refl in
     let h = (after (turn s (begin table plan number)) calls) .frame in
     let is = close-is number D ds fits values h (r .1) in (

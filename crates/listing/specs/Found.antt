@@ -1,6 +1,6 @@
 -- What the lister's code goes by: the job of an id in the table, a plan's steps with their jobs, a refusal's numbers, and the text of what was made.
 -- Assumes nothing.
-use mathlib.Core.Bool.{Bool, true, false, cond}
+use mathlib.Core.Bool.{Bool, cond}
 use mathlib.Core.List.{List, [], _∷_, _++_, map}
 use Prim.Native.Nat.{ℕ}
 use lib.Dec.{eqb}

@@ -8,21 +8,22 @@ use native.Mathlib.Omega.{arith}
 use lib.ListN.{length, drop}
 use Rattle.model.specs.Timetable.{Chosen}
 use Rattle.model.specs.FreeOrder.{plan, busy, lastFrom, LeastDeadline}
-use Rattle.model.specs.GivenOrder.{given}
+use Rattle.model.specs.GivenOrder.{given, BestInOrder}
 use Rattle.model.specs.Positions.{free}
 use Rattle.model.proofs.Lists.{clash}
 use Rattle.model.proofs.Timetables.{timetable-iff-workable}
 use Rattle.model.proofs.Best.{best-unique}
-use Rattle.model.proofs.GivenOrder.{given-none-iff, best-in-order-iff}
+use Rattle.model.proofs.GivenOrder.{given-none-iff, given-best, best-in-order-iff, best-in-order-unique}
 use Rattle.model.proofs.LeastDeadline.{turn-least, least-unique, met-mono}
 use Rattle.model.proofs.Free.{free-best, free-none-iff}
 use Rattle.table.specs.declared.refusal.Refusal.the-variants.{None}
-use Rattle.table.specs.Limits.{mostJobs, largestTime}
+use Rattle.table.specs.Limits.{mostJobs, largestTime, longestPlan}
 use Rattle.table.specs.Refusals.{accepted}
 use Rattle.table.specs.Tables.{JobTable, readTable}
 use Rattle.table.proofs.Accepted.{accepted-good}
 use Rattle.plan.specs.Plans.{planBytes}
 use Rattle.draft.specs.Drafts.{stepsFor}
+use Rattle.planner.specs.declared.Planned.{Planned}
 use Rattle.planner.specs.Answers as A
 use Rattle.planner.specs.Answers.{BestPlan, FreeAnswer, GivenAnswer, LeastAnswer}
 use Rattle.marked.specs.Marked.{Claimed, plan-is, no-plan, no-given, least-is}
@@ -69,6 +70,23 @@ module _ (s : List ℕ) (t : JobTable) (e : readTable s ≡ accepted t) where
       step (A.bad-table l g q h) = clash (cc)
       step (A.no-plan l u q n h) = h
       step (A.planned l u q ys p h) = absurd (given-none-iff (t .deadline) (t .jobs) .0 f (best-in-order-iff (t .deadline) (t .jobs) .0 (ys, rw (same u q) at p)))
+
+  -- a plan that Algorithm 1 finds is the one that every answer in the given order has
+  pub given-plan-case : (xs : List Chosen) → given (t .deadline) 0 (t .jobs) ≡ some xs
+      → (before : List ℕ) (r : Planned) (after : List ℕ) → longestPlan ≤ length before → GivenAnswer s before r after
+      → (A.plannedSays r ≡ 0 ∷ length (planBytes (stepsFor xs)) ∷ busy xs ∷ lastFrom 0 xs ∷ []) × (after ≡ planBytes (stepsFor xs) ++ drop (length (planBytes (stepsFor xs))) before)
+  given-plan-case xs f before r after room a = step a
+    where
+      best : BestInOrder (t .deadline) (t .jobs) xs
+      best = given-best (t .deadline) (t .jobs) xs f
+
+      step : GivenAnswer s before r after → (A.plannedSays r ≡ 0 ∷ length (planBytes (stepsFor xs)) ∷ busy xs ∷ lastFrom 0 xs ∷ []) × (after ≡ planBytes (stepsFor xs) ++ drop (length (planBytes (stepsFor xs))) before)
+      step (A.no-room l h) = absurd (omega arith)
+      step (A.bad-table l g q h) = clash (cc)
+      step (A.no-plan l u q n h) = absurd (n (rw (same u q) (best-in-order-iff (t .deadline) (t .jobs) .0 (xs, best))))
+      step (A.planned l u q ys p h) =
+          let y : ys ≡ xs = best-in-order-unique (t .deadline) (t .jobs) ys xs (rw (same u q) at p) best in
+          (rw y at (h .says), rw y at (h .front))
 
   -- met at d + 1, and not at d unless d is 0
   pub least-case : (d : ℕ) → d < largestTime → (xs : List Chosen) → free mostJobs (suc d) (t .jobs) ≡ some xs → (1 ≤ d → free mostJobs d (t .jobs) ≡ none) → Claimed s (least-is (suc d))

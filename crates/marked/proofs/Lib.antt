@@ -1,3 +1,7 @@
 pub mod Cases
+pub mod Examples
 pub mod Marked
-pub mod ShutOut
+pub mod Planners
+pub mod LooksRight
+pub mod Checks
+pub mod Runners

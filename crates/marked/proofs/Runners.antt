@@ -1,0 +1,100 @@
+-- No runner that meets its contract handles the first event and then only nods, or keeps the last frame's value until a new one comes.
+-- Both are shown by Table E with its plan. Assumes nothing.
+use mathlib.Core.Path.{_≡_, refl, sym, ap, _∙_}
+use mathlib.Core.List.{List, [], _∷_}
+use Prim.Native.Nat.{ℕ}
+use Rattle.model.proofs.Lists.{clash}
+use Rattle.table.specs.Records.{formOf, judged, used, listFrom}
+use Rattle.table.specs.Tables.{frameAt, jobAt, jobsRead, readTable}
+use Rattle.plan.specs.Plans.{readPlan, recordAt}
+use Rattle.judge.specs.Check.{jobOf, listed, lacksOne}
+use Rattle.frame.specs.declared.Frame.{Frame}
+use Rattle.frame.specs.declared.Sample.{Sample}
+use Rattle.frame.specs.declared.Reading.the-variants.{Fresh, Pending}
+use Rattle.frame.specs.declared.Answer.{Answer}
+use Rattle.frame.specs.declared.Answer.the-variants.{Done, Read}
+use Rattle.frame.specs.declared.Event.{Event}
+use Rattle.frame.specs.declared.Event.the-variants as E
+use Rattle.frame.specs.Sound.{first, sound?, open?, begun?, ready?, okBegun, okFrom, okAt, okOrder, okId}
+use Rattle.frame.specs.Step.{idle, eventStep, spanStep, backStep, closeStep, readOf, whereIs}
+use Rattle.frame.specs.Begin.{beginStep, begun, entriesOf, orderOf, awayIn, filled}
+use Rattle.marked.specs.Marked as marked
+use Rattle.marked.specs.Marked.{planE, one}
+use Rattle.marked.specs.Versions.{Runner, runs, OnlyNods, KeepsValues}
+
+-- the contracts of begin and of every other call
+pub record Meets (r : Runner) : Type 0 where
+  pub begins : (f : Frame) (s p : List ℕ) (n : ℕ) → r .begin f s p n ≡ beginStep f s p n
+  pub steps : (f : Frame) (e : Event) → r .step f e ≡ eventStep f e
+
+-- the runner that the definitions are
+abbrev rules : Runner
+rules = record { begin = beginStep; step = eventStep }
+
+-- frame 1 of E: begun; after the first event; after all of them, the last a return of job 1 at 45; closed; and frame 2 begun
+abbrev opened : Frame
+opened = beginStep idle marked.E planE 1 .frame
+
+abbrev spanOne : Event
+spanOne = E.SpanEnd 1 5 one
+
+abbrev later : List Event
+later = E.SpanEnd 2 15 one ∷ E.Return 1 2 25 one ∷ E.SpanEnd 3 40 one ∷ E.Return 1 1 45 one ∷ []
+
+abbrev own : Sample
+own = record { value = one; frame = 1 }
+
+abbrev handled : Frame
+handled = eventStep opened spanOne .frame
+
+abbrev closed : Frame
+closed = eventStep (runs rules handled later) (E.Close 45) .frame
+
+unfoldable reads : Frame → ℕ → Answer
+reads f id = eventStep f (E.Read id) .answer
+
+pending-first : reads handled 1 ≡ Read Pending
+unfolding reads marked.E readTable frameAt jobsRead jobAt judged formOf listFrom used readPlan recordAt jobOf listed lacksOne beginStep begun entriesOf orderOf awayIn filled first sound? open? begun? ready? okBegun okFrom okAt okOrder okId spanStep readOf whereIs
+pending-first = refl
+
+fresh-later : reads (runs rules handled later) 1 ≡ Read (Fresh own)
+unfolding reads marked.E readTable frameAt jobsRead jobAt judged formOf listFrom used readPlan recordAt jobOf listed lacksOne beginStep begun entriesOf orderOf awayIn filled first sound? open? begun? ready? okBegun okFrom okAt okOrder okId spanStep backStep readOf whereIs
+fresh-later = refl
+
+fresh-closed : reads closed 1 ≡ Read (Fresh own)
+unfolding reads marked.E readTable frameAt jobsRead jobAt judged formOf listFrom used readPlan recordAt jobOf listed lacksOne beginStep begun entriesOf orderOf awayIn filled first sound? open? begun? ready? okBegun okFrom okAt okOrder okId spanStep backStep closeStep readOf whereIs
+fresh-closed = refl
+
+begun-next : beginStep closed marked.E planE 2 .answer ≡ Done
+unfolding marked.E readTable frameAt jobsRead jobAt judged formOf listFrom used readPlan recordAt jobOf listed lacksOne beginStep begun entriesOf orderOf awayIn filled first sound? open? begun? ready? okBegun okFrom okAt okOrder okId spanStep backStep closeStep readOf whereIs
+begun-next = refl
+
+pending-next : reads (beginStep closed marked.E planE 2 .frame) 1 ≡ Read Pending
+unfolding reads marked.E readTable frameAt jobsRead jobAt judged formOf listFrom used readPlan recordAt jobOf listed lacksOne beginStep begun entriesOf orderOf awayIn filled first sound? open? begun? ready? okBegun okFrom okAt okOrder okId spanStep backStep closeStep readOf whereIs
+pending-next = refl
+
+not-both : (x : Sample) → Read (Fresh x) ≡ Read Pending → ⊥
+not-both x e = clash (cc)
+
+module _ (r : Runner) (meets : Meets r) where
+  same-runs : (f : Frame) (es : List Event) → runs r f es ≡ runs rules f es
+  same-runs f [] = refl
+  same-runs f (e ∷ es) = rw (meets .steps f e) (same-runs (eventStep f e .frame) es)
+
+  same-handled : r .step (r .begin idle marked.E planE 1 .frame) spanOne .frame ≡ handled
+  same-handled = rw (meets .begins idle marked.E planE 1) (ap (λ s. s .frame) (meets .steps opened spanOne))
+
+  pub not-only-nods : ¬ (OnlyNods r)
+  not-only-nods n =
+      let stays : runs rules handled later ≡ handled = sym (same-runs handled later) ∙ (rw same-handled at (n marked.E planE 1 spanOne later)) in
+      not-both own (sym fresh-later ∙ (ap (λ (f : Frame). reads f 1) stays ∙ pending-first))
+
+  pub not-keeps-values : ¬ (KeepsValues r)
+  unfolding reads
+  not-keeps-values k =
+      let fresh : r .step closed (E.Read 1) .answer ≡ Read (Fresh own) = rw (meets .steps closed (E.Read 1)) fresh-closed in
+      let done : r .begin closed marked.E planE 2 .answer ≡ Done = rw (meets .begins closed marked.E planE 2) begun-next in
+      let kept = k closed 1 own fresh marked.E planE 2 done in
+      let here : reads (beginStep closed marked.E planE 2 .frame) 1 ≡ Read (Fresh own) =
+      rw (meets .begins closed marked.E planE 2, meets .steps (beginStep closed marked.E planE 2 .frame) (E.Read 1)) at kept in
+      not-both own (sym here ∙ pending-next)
