@@ -18,6 +18,28 @@ extern "C" {
 /* The longest plan: areas must have room for it. */
 #define ZB_LONGEST_PLAN 65
 
+/* The refusals by their names. Planners refuse with 1 to 7 and 18, the least deadline with 1 to 7, the check with 1 to 6 and 8 to 11. */
+enum zb_refusal {
+    ZB_SHORT = 1, /* bytes end inside a record or before the end record */
+    ZB_KIND,      /* kind unknown or not allowed at this place */
+    ZB_RANGE,     /* a time above 4,000, or a deadline of 0 */
+    ZB_MANY,      /* a 33rd job */
+    ZB_TWICE,     /* id used before in the same file */
+    ZB_AFTER,     /* bytes after the end record */
+    ZB_NONE,      /* no timetable meets the deadline */
+    ZB_STRANGER,  /* plan names an id that the table lacks */
+    ZB_KEPT,      /* plan sends a here-only job away */
+    ZB_LEFT,      /* plan lacks a job of the table */
+    ZB_LATE,      /* plan run at full entries misses the deadline */
+    ZB_PHASE,     /* 12 to 17 are the frame runner's */
+    ZB_NUMBER,
+    ZB_CLOCK,
+    ZB_WHO,
+    ZB_VALUE,
+    ZB_EARLY,
+    ZB_ROOM       /* output area shorter than ZB_LONGEST_PLAN */
+};
+
 /* `length` bytes of plan at the front of the area; `busy` is the sum of the plan's spans, `last` its latest finish. */
 struct zb_planned {
     uint64_t number, place, length, busy, last;
