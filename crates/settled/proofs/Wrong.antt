@@ -5,6 +5,9 @@ use mathlib.Core.Bool.{Bool, true, false}
 use mathlib.Core.List.{List, [], _∷_}
 use Prim.Native.Nat.{ℕ}
 use native.Mathlib.Omega.{arith}
+use lib.Ieee.{nan, fin}
+use lib.IntN.{pos}
+use lib.ListN.{getD, set, replicate}
 use Rattle.model.specs.declared.Sending.the-variants.{Either}
 use Rattle.model.specs.declared.Job.{Job}
 use Rattle.model.specs.Timetable.{span, wait}
@@ -23,6 +26,7 @@ use Rattle.table.specs.Tables.{emptyTable}
 use Rattle.plan.specs.declared.Plan.{Plan}
 use Rattle.plan.specs.declared.Step as plan
 use Rattle.plan.specs.Plans.{planOf, withStep, stepAt}
+use Rattle.choice.specs.Choices.{flagsOf}
 use Rattle.draft.specs.declared.Draft.{Draft}
 use Rattle.draft.specs.Drafts.{draftOf, withChosen, withIf}
 use Rattle.judge.specs.declared.Checked.the-variants.{Passes, Fails}
@@ -30,6 +34,7 @@ use Rattle.planner.specs.declared.Planned.the-variants.{PlanWritten, NotPlanned
 use Rattle.planner.specs.declared.Least.the-variants.{DeadlineIs}
 use Rattle.frame.specs.declared.Frame.{Frame}
 use Rattle.frame.specs.declared.Phase.the-variants.{Open}
+use Rattle.frame.specs.Finite.{finite?}
 use Rattle.frame.specs.Sound.{sound?, okBegun}
 use Rattle.frame.specs.Step.{idle}
 use Rattle.panel.specs.declared.PlannedNumbers.{PlannedNumbers}
@@ -122,7 +127,23 @@ with-if =
     ((λ e. let z : _≡_ {A = ℕ} 0 1 = ap (λ (d : Draft). d .plan .count) e in omega arith),
     (λ e. let z : _≡_ {A = ℕ} 1 0 = ap (λ (d : Draft). d .plan .count) e in omega arith))
 
--- ---- frame: a record that is open, or has a number, is not the idle one; and a begun record without a deadline is not sound, an idle one is
+-- ---- choice
+
+-- of two either jobs with equal returns the first is first in away order, and mask 1 sends it: no flag at all; the flag of the other job
+pub flags-of :
+    ¬ (replicate mostJobs false ≡ flagsOf (job ∷ job ∷ []) 1)
+    × ¬ (set (replicate mostJobs false) 1 true ≡ flagsOf (job ∷ job ∷ []) 1)
+flags-of =
+    ((λ e. clash (cc (ap (λ (bs : List Bool). getD bs 0 false) e))),
+    (λ e. clash (cc (ap (λ (bs : List Bool). getD bs 0 false) e))))
+
+-- ---- frame
+
+-- one refused, what is not a number let through
+pub finite : ¬ (false ≡ finite? (fin false 1 (pos 0))) × ¬ (true ≡ finite? nan)
+finite = ((λ e. clash (cc)), (λ e. clash (cc)))
+
+-- a record that is open, or has a number, is not the idle one; and a begun record without a deadline is not sound, an idle one is
 
 abbrev with-phase : ℕ → Frame
 with-phase n = record { phase = Open; number = n; clock = 0; deadline = 0; count = 0; next = 0; order = idle .order; entries = idle .entries }
