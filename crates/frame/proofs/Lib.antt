@@ -3,6 +3,7 @@ pub mod Passed
 pub mod Filled
 pub mod Refused
 pub mod Sound
+pub mod Marks
 pub mod Reached
 pub mod Safe
 pub mod Numbers

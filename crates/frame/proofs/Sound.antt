@@ -37,10 +37,10 @@ module _ {A : Type 0} (key : A → ℕ) (d : A) (xs : List A) (n k : ℕ) where
   abbrev Own : Bool
   Own = isAt (first key d xs (key (getD xs k d)) 0 n) k
 
-  own-tells : Own ≡ true → (i : ℕ) → i < k → key (getD xs i d) ≡ key (getD xs k d) → ⊥
+  pub own-tells : Own ≡ true → (i : ℕ) → i < k → key (getD xs i d) ≡ key (getD xs k d) → ⊥
   own-tells e i h is = first-least key d xs (key (getD xs k d)) 0 n k (is-at _ k e) i (omega arith) h is
 
-  own-made : k < n → ((i : ℕ) → i < k → key (getD xs i d) ≡ key (getD xs k d) → ⊥) → Own ≡ true
+  pub own-made : k < n → ((i : ℕ) → i < k → key (getD xs i d) ≡ key (getD xs k d) → ⊥) → Own ≡ true
   own-made h differ = rw (first-found key d xs (key (getD xs k d)) 0 n k (omega arith) (omega arith) refl (λ i _ q. differ i q)) (eq-eqb k k refl)
 
 -- ---- the test and the list

@@ -11,7 +11,7 @@ ghost use Rattle.table.specs.Tables.{Sound, jobTable};
 ghost use Rattle.plan.specs.Plans.{stepId, noStep, readPlan};
 ghost use Rattle.judge.specs.Check.{afterPlan};
 ghost use Rattle.frame.specs.Finite.{finite?};
-ghost use Rattle.frame.specs.Sound.{none, placeAt, entryId, itself, first, isAt, okId, okEntry, okOrder, okAt, okFrom, okBegun, sound?, open?, begun?, ready?};
+ghost use Rattle.frame.specs.Sound.{none, placeAt, entryId, first, okEntry, okFrom, okBegun, sound?, open?, begun?, ready?};
 ghost use Rattle.frame.specs.Step.{idle, refused, judge, moved, spanAt, spanStep, backAt, backStep, closeStep, nextOf, unreported, readingOf, readOf, eventStep};
 ghost use Rattle.frame.specs.Begin.{stepsIn, awayIn, entriesOf, position, orderOf, begun, mayOpen, beginChecked, beginStep};
 
@@ -135,31 +135,6 @@ fn find_in(entries: [Entry; Table::MOST_JOBS], count: usize, id: u8) -> Found
     Found::Nothing
 }
 
-// Which job of the plan has a table position.
-fn rank_in(order: [usize; Table::MOST_JOBS], count: usize, place: usize) -> Found
-    requires { ⌜ count ≤ 32 ⌝ }
-    ensures { λ r. ⌜ r ≡ first itself 0 order place 0 count ⌝ }
-{
-    let mut i = 0;
-    while i < count {
-        if order[i] == place {
-            return Found::At(i);
-        }
-        i += 1;
-    }
-    Found::Nothing
-}
-
-// Whether the search stopped at k.
-fn is_at(found: Found, k: usize) -> bool
-    ensures { λ r. ⌜ r ≡ isAt found k ⌝ }
-{
-    match found {
-        Found::At(i) => i == k,
-        Found::Nothing => false,
-    }
-}
-
 // What the k-th job of the plan may stand at, by whether the panel is past it.
 fn entry_ok(number: u32, passed: bool, e: Entry) -> bool
     ensures { λ r. ⌜ r ≡ okEntry number passed e ⌝ }
@@ -191,29 +166,6 @@ fn entry_ok(number: u32, passed: bool, e: Entry) -> bool
             return passed;
         }
     }
-}
-
-// Whether the k-th job of the plan has a place of its own in the table.
-fn order_ok(order: [usize; Table::MOST_JOBS], count: usize, k: usize) -> bool
-    requires { ⌜ (count ≤ 32) × (k < 32) ⌝ }
-    ensures { λ r. ⌜ r ≡ okOrder order count k ⌝ }
-{
-    let place = order[k];
-    if place < count {
-        let found = rank_in(order, count, place);
-        return is_at(found, k);
-    }
-    false
-}
-
-// Whether the k-th job of the table has an id of its own.
-fn id_ok(entries: [Entry; Table::MOST_JOBS], count: usize, k: usize) -> bool
-    requires { ⌜ (count ≤ 32) × (k < 32) ⌝ }
-    ensures { λ r. ⌜ r ≡ okId entries count k ⌝ }
-{
-    let e = entries[k];
-    let found = find_in(entries, count, e.id);
-    is_at(found, k)
 }
 
 // A job that has not reported is pending while the frame is open, and missing once it is closed.
@@ -377,32 +329,33 @@ impl Frame {
         }
     }
 
-    // What a sound record asks of the k-th job of the plan and of the table.
-    fn place_ok(self, k: usize) -> bool
-        requires { ⌜ (self .count ≤ 32) × (k < 32) ⌝ }
-        ensures { λ r. ⌜ r ≡ okAt self k ⌝ }
-    {
-        let order = self.order;
-        let entries = self.entries;
-        if !order_ok(order, self.count, k) {
-            return false;
-        }
-        if !id_ok(entries, self.count, k) {
-            return false;
-        }
-        let place = order[k];
-        let e = entries[place];
-        entry_ok(self.number, k < self.next, e)
-    }
-
+    // Each job of the plan has a place of its own in the table, each job of the table an id of its own, and each stands where it may.
+    // One pass: the flags tell the places and the ids that have come.
     fn places_ok(self) -> bool
         requires { ⌜ self .count ≤ 32 ⌝ }
         ensures { λ r. ⌜ r ≡ okFrom self 0 (self .count) ⌝ }
     {
         let count = self.count;
+        let mut places = [false; Table::MOST_JOBS];
+        let mut ids = [false; 256];
         let mut k = 0;
         while k < count {
-            if !self.place_ok(k) {
+            let place = self.order[k];
+            if count <= place {
+                return false;
+            }
+            if places[place] {
+                return false;
+            }
+            places[place] = true;
+            let own = self.entries[k];
+            let id = own.id as usize;
+            if ids[id] {
+                return false;
+            }
+            ids[id] = true;
+            let e = self.entries[place];
+            if !entry_ok(self.number, k < self.next, e) {
                 return false;
             }
             k += 1;

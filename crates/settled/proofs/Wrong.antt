@@ -73,24 +73,27 @@ abbrev counted : ℕ → ℕ → Table
 counted D n = record { deadline = D; count = n; jobs = emptyTable .jobs }
 
 pub table-empty : ¬ (counted 1 0 ≡ emptyTable) × ¬ (counted 0 1 ≡ emptyTable)
-table-empty =
-    ((λ e. let z : _≡_ {A = ℕ} 1 0 = ap (λ (t : Table). t .deadline) e in omega arith),
-    (λ e. let z : _≡_ {A = ℕ} 1 0 = ap (λ (t : Table). t .count) e in omega arith))
+table-empty = (
+  (λ e. let z : _≡_ {A = ℕ} 1 0 = ap (λ (t : Table). t .deadline) e in omega arith),
+  (λ e. let z : _≡_ {A = ℕ} 1 0 = ap (λ (t : Table). t .count) e in omega arith),
+)
 
 -- a here-only record's body one byte short; its kind unknown
 pub form-of : ¬ (form (Row HereRow) 2 ≡ formOf 0x11) × ¬ (form Unknown 3 ≡ formOf 0x11)
 unfolding formOf
-form-of =
-    ((λ e. let z : _≡_ {A = ℕ} 2 3 = ap (λ (f : Form). f .body) e in omega arith),
-    (λ e. clash (cc (ap (λ (f : Form). f .meaning) e))))
+form-of = (
+  (λ e. let z : _≡_ {A = ℕ} 2 3 = ap (λ (f : Form). f .body) e in omega arith),
+  (λ e. clash (cc (ap (λ (f : Form). f .meaning) e))),
+)
 
 -- the number of another refusal; a place left out
 pub numbers-of :
     ¬ (record { number = 12; placed = false; place = 0 } ≡ saidBy (refusalSays Late))
     × ¬ (record { number = 5; placed = false; place = 0 } ≡ saidBy (refusalSays (Twice (place 7))))
-numbers-of =
-    ((λ e. let z : _≡_ {A = ℕ} 12 11 = ap (λ (s : Said). s .number) e in omega arith),
-    (λ e. let z : _≡_ {A = ℕ} 0 7 = ap (λ (s : Said). s .place) e in omega arith))
+numbers-of = (
+  (λ e. let z : _≡_ {A = ℕ} 12 11 = ap (λ (s : Said). s .number) e in omega arith),
+  (λ e. let z : _≡_ {A = ℕ} 0 7 = ap (λ (s : Said). s .place) e in omega arith),
+)
 
 -- ---- plan, draft
 
@@ -103,29 +106,33 @@ step id away = record { id = id; away = away }
 -- the step after it; the other choice
 pub step-at : ¬ (step 2 false ≡ stepAt two 0) × ¬ (step 1 false ≡ stepAt two 0)
 unfolding stepAt
-step-at =
-    ((λ e. let z : _≡_ {A = ℕ} 2 1 = ap (λ (x : plan.Step). x .id) e in omega arith),
-    (λ e. clash (cc (ap (λ (x : plan.Step). x .away) e))))
+step-at = (
+  (λ e. let z : _≡_ {A = ℕ} 2 1 = ap (λ (x : plan.Step). x .id) e in omega arith),
+  (λ e. clash (cc (ap (λ (x : plan.Step). x .away) e))),
+)
 
 abbrev one : Plan
 one = withStep (planOf []) (step 1 true)
 
 -- a step there already; a step that is not counted
 pub plan-empty : ¬ (one ≡ planOf []) × ¬ (record { count = 1; steps = planOf [] .steps } ≡ planOf [])
-plan-empty =
-    ((λ e. let z : _≡_ {A = ℕ} 1 0 = ap (λ (p : Plan). p .count) e in omega arith),
-    (λ e. let z : _≡_ {A = ℕ} 1 0 = ap (λ (p : Plan). p .count) e in omega arith))
+plan-empty = (
+  (λ e. let z : _≡_ {A = ℕ} 1 0 = ap (λ (p : Plan). p .count) e in omega arith),
+  (λ e. let z : _≡_ {A = ℕ} 1 0 = ap (λ (p : Plan). p .count) e in omega arith),
+)
 
 pub with-step : ¬ (planOf [] ≡ one) × ¬ (withStep one (step 2 true) ≡ one)
-with-step =
-    ((λ e. let z : _≡_ {A = ℕ} 0 1 = ap (λ (p : Plan). p .count) e in omega arith),
-    (λ e. let z : _≡_ {A = ℕ} 2 1 = ap (λ (p : Plan). p .count) e in omega arith))
+with-step = (
+  (λ e. let z : _≡_ {A = ℕ} 0 1 = ap (λ (p : Plan). p .count) e in omega arith),
+  (λ e. let z : _≡_ {A = ℕ} 2 1 = ap (λ (p : Plan). p .count) e in omega arith),
+)
 
 -- a job left out, or listed where it should not be
 pub with-if : ¬ (draftOf [] ≡ withIf (draftOf []) true (chosen job true)) × ¬ (withChosen (draftOf []) (chosen job true) ≡ withIf (draftOf []) false (chosen job true))
-with-if =
-    ((λ e. let z : _≡_ {A = ℕ} 0 1 = ap (λ (d : Draft). d .plan .count) e in omega arith),
-    (λ e. let z : _≡_ {A = ℕ} 1 0 = ap (λ (d : Draft). d .plan .count) e in omega arith))
+with-if = (
+  (λ e. let z : _≡_ {A = ℕ} 0 1 = ap (λ (d : Draft). d .plan .count) e in omega arith),
+  (λ e. let z : _≡_ {A = ℕ} 1 0 = ap (λ (d : Draft). d .plan .count) e in omega arith),
+)
 
 -- ---- choice
 
@@ -133,9 +140,10 @@ with-if =
 pub flags-of :
     ¬ (replicate mostJobs false ≡ flagsOf (job ∷ job ∷ []) 1)
     × ¬ (set (replicate mostJobs false) 1 true ≡ flagsOf (job ∷ job ∷ []) 1)
-flags-of =
-    ((λ e. clash (cc (ap (λ (bs : List Bool). getD bs 0 false) e))),
-    (λ e. clash (cc (ap (λ (bs : List Bool). getD bs 0 false) e))))
+flags-of = (
+  (λ e. clash (cc (ap (λ (bs : List Bool). getD bs 0 false) e))),
+  (λ e. clash (cc (ap (λ (bs : List Bool). getD bs 0 false) e))),
+)
 
 -- ---- frame
 
@@ -149,9 +157,10 @@ abbrev with-phase : ℕ → Frame
 with-phase n = record { phase = Open; number = n; clock = 0; deadline = 0; count = 0; next = 0; order = idle .order; entries = idle .entries }
 
 pub frame-idle : ¬ (with-phase 0 ≡ idle) × ¬ (with-phase 1 ≡ idle)
-frame-idle =
-    ((λ e. clash (cc (ap (λ (f : Frame). f .phase) e))),
-    (λ e. let z : _≡_ {A = ℕ} 1 0 = ap (λ (f : Frame). f .number) e in omega arith))
+frame-idle = (
+  (λ e. clash (cc (ap (λ (f : Frame). f .phase) e))),
+  (λ e. let z : _≡_ {A = ℕ} 1 0 = ap (λ (f : Frame). f .number) e in omega arith),
+)
 
 pub sound : ¬ (true ≡ sound? (with-phase 0)) × ¬ (false ≡ sound? idle)
 unfolding sound? okBegun
@@ -166,21 +175,24 @@ pub zb-plan :
     ¬ (planned 0 0 7 45 40 ≡ plannedNumbers (PlanWritten 7 40 45))
     × ¬ (planned 0 0 0 0 0 ≡ plannedNumbers (NotPlanned (Twice (place 7))))
     × ¬ (planned 5 0 0 0 0 ≡ plannedNumbers (NotPlanned (Twice (place 7))))
-zb-plan =
-    ((λ e. let z : _≡_ {A = ℕ} 45 40 = ap (λ (p : PlannedNumbers). p .busy) e in omega arith),
-    (λ e. let z : _≡_ {A = ℕ} 0 5 = ap (λ (p : PlannedNumbers). p .number) e in omega arith),
-    (λ e. let z : _≡_ {A = ℕ} 0 7 = ap (λ (p : PlannedNumbers). p .place) e in omega arith))
+zb-plan = (
+  (λ e. let z : _≡_ {A = ℕ} 45 40 = ap (λ (p : PlannedNumbers). p .busy) e in omega arith),
+  (λ e. let z : _≡_ {A = ℕ} 0 5 = ap (λ (p : PlannedNumbers). p .number) e in omega arith),
+  (λ e. let z : _≡_ {A = ℕ} 0 7 = ap (λ (p : PlannedNumbers). p .place) e in omega arith),
+)
 
 pub zb-least-deadline :
     ¬ (record { number = 0; place = 45; deadline = 45 } ≡ leastNumbers (DeadlineIs 45))
     × ¬ (record { number = 0; place = 0; deadline = 46 } ≡ leastNumbers (DeadlineIs 45))
-zb-least-deadline =
-    ((λ e. let z : _≡_ {A = ℕ} 45 0 = ap (λ (p : LeastNumbers). p .place) e in omega arith),
-    (λ e. let z : _≡_ {A = ℕ} 46 45 = ap (λ (p : LeastNumbers). p .deadline) e in omega arith))
+zb-least-deadline = (
+  (λ e. let z : _≡_ {A = ℕ} 45 0 = ap (λ (p : LeastNumbers). p .place) e in omega arith),
+  (λ e. let z : _≡_ {A = ℕ} 46 45 = ap (λ (p : LeastNumbers). p .deadline) e in omega arith),
+)
 
 pub zb-check-plan :
     ¬ (record { number = 0; place = 0; last = 0; busy = 0 } ≡ checkedNumbers (Fails Late))
     × ¬ (record { number = 0; place = 0; last = 40; busy = 45 } ≡ checkedNumbers (Passes 45 40))
-zb-check-plan =
-    ((λ e. let z : _≡_ {A = ℕ} 0 11 = ap (λ (p : CheckedNumbers). p .number) e in omega arith),
-    (λ e. let z : _≡_ {A = ℕ} 40 45 = ap (λ (p : CheckedNumbers). p .last) e in omega arith))
+zb-check-plan = (
+  (λ e. let z : _≡_ {A = ℕ} 0 11 = ap (λ (p : CheckedNumbers). p .number) e in omega arith),
+  (λ e. let z : _≡_ {A = ℕ} 40 45 = ap (λ (p : CheckedNumbers). p .last) e in omega arith),
+)
