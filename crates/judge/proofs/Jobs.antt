@@ -1,11 +1,11 @@
 -- What it means that a plan's steps are listed: which job each step names, that listed jobs and steps tell each other, and that steps
 -- which all name jobs of the table leave one out exactly when they are fewer than its jobs. Assumes nothing.
-use Prim.Native.Nat.{ℕ, suc, _≤_, _<_}
+use Prim.Native.Nat.{ℕ, _≤_, _<_}
 use native.Mathlib.Omega.{arith}
-use mathlib.Core.Path.{_≡_, refl, sym, ap, subst, _∙_}
+use mathlib.Core.Path.{_≡_, refl, sym, ap, subst}
 use mathlib.Core.Logic.{_⊎_, inl, inr}
 use mathlib.Core.Bool.{Bool, true, false, cond, not, _&&_, _||_, or-true}
-use mathlib.Core.List.{List, [], _∷_, _++_, map, List·Memᴰ, List·Memᴰ·head, List·Memᴰ·tail, List·Memᴰ·cases-cons, Memᴰ·map, Memᴰ·of-map, List·Permᴰ, List·Permᴰ·nil, List·Permᴰ·cons, List·Permᴰ·swap, List·Permᴰ·trans, Permᴰ·refl, Permᴰ·symm, Permᴰ·middle, append-nil}
+use mathlib.Core.List.{List, [], _∷_, _++_, map, List·Memᴰ, List·Memᴰ·head, List·Memᴰ·tail, List·Memᴰ·cases-cons, Memᴰ·map, Memᴰ·of-map, List·Permᴰ, List·Permᴰ·cons, List·Permᴰ·swap, List·Permᴰ·trans, Permᴰ·refl, Permᴰ·symm, Permᴰ·middle, append-nil}
 use mathlib.Core.Option.{Option, none, some}
 use lib.ListN.{length, length-map, length-append}
 use lib.Dec.{T, eqb}
@@ -16,7 +16,7 @@ use Rattle.model.specs.Timetable.{Chosen, Allowed, isEither}
 use Rattle.model.specs.Laying.{chosen}
 use Rattle.model.proofs.PlanOrder.{jobOf as theJob, jobs as jobsOf}
 use Rattle.model.proofs.Lists.{clash, all-map, all-zip, all-of-map, pairwise-of-map}
-use Rattle.model.proofs.Permutations.{all-perm, pairwise-perm}
+use Rattle.model.proofs.Permutations.{all-perm, pairwise-perm, length-perm}
 use Rattle.table.specs.declared.refusal.Refusal.the-variants.{Kept}
 use Rattle.table.specs.Refusals.{Outcome, accepted, refused}
 use Rattle.table.specs.Records.{used}
@@ -49,12 +49,6 @@ module _ {A : Type 0} where
   all-front : (P : A → Type 0) (xs ys : List A) → All P (xs ++ ys) → All P xs
   all-front P [] ys h = tt
   all-front P (x ∷ xs) ys h = (h .0, all-front P xs ys (h .1))
-
-  perm-length : {xs ys : List A} → List·Permᴰ xs ys → length xs ≡ length ys
-  perm-length List·Permᴰ·nil = refl
-  perm-length (List·Permᴰ·cons e d) = ap suc (perm-length d)
-  perm-length (List·Permᴰ·swap e₁ e₂) = refl
-  perm-length (List·Permᴰ·trans d₁ d₂) = perm-length d₁ ∙ perm-length d₂
 
 -- Things whose ids differ and which are all in a list are that list, but for the rest.
 module _ {A B : Type 0} (g : A → B) (idOf : B → ℕ) where
@@ -193,12 +187,12 @@ all-or-left js cs table plan h =
         ((length js ≤ length cs) × List·Permᴰ (jobsOf cs) js) ⊎ ((length cs < length js) × (lacksOne js (map stepId (stepsFor cs)) ≡ true))
     step [] d =
         let all : List·Permᴰ (jobsOf cs) js = rw append-nil at d in
-        inl (omega (arith, perm-length all, length-map cs theJob), all)
+        inl (omega (arith, length-perm all, length-map cs theJob), all)
     step (j ∷ rest) d =
         let first : List·Permᴰ js (j ∷ (jobsOf cs ++ rest)) = List·Permᴰ·trans (Permᴰ·symm d) (Permᴰ·middle j (jobsOf cs) rest) in
         let others = pairwise-perm (λ (x y : Job). ¬ (x .id ≡ y .id)) (λ x y n e. n (sym e)) first table .0 in
         let not-there = all-of-map theJob _ cs (all-front (λ (x : Job). ¬ (j .id ≡ x .id)) (jobsOf cs) rest others) in
         inr (
-          omega (arith, perm-length d, length-append (jobsOf cs) (j ∷ rest), length-map cs theJob),
+          omega (arith, length-perm d, length-append (jobsOf cs) (j ∷ rest), length-map cs theJob),
           lacks-that _ (unused cs (j .id) not-there) (perm-members (Permᴰ·symm first) .0),
         )

@@ -25,8 +25,9 @@ use Rattle.table.specs.Refusals.{place, refusalSays, Outcome, accepted, refused
 use Rattle.table.specs.Records.{wordAt, formOf, frameOnly, rowOnly, allowed, judged, Entry, one, last, bad, used, follow, listFrom}
 use Rattle.table.specs.Tables.{JobTable, timeOk, deadlineAt, frameAt, rowBody, jobAt, jobEntry, jobId, jobsRead, withDeadline, afterFrame, readTable}
 use Rattle.table.proofs.Records.{cond-all}
+use Rattle.table.proofs.Written.{end-next}
 use Rattle.table.proofs.Listed.{listed-all}
-use Rattle.table.proofs.Tables.{rowEntry, RowIs, row-here, row-either, row-end, row-is}
+use Rattle.table.proofs.Tables.{rowEntry, RowIs, row-here, row-either, row-is}
 use Rattle.table.proofs.Accepted.{accepted-read}
 
 -- one of the refusals 1 to 6, at a place of at most `most`
@@ -99,9 +100,6 @@ module _ (s : List ℕ) (at n : ℕ) (f : Refusal) where
 pub row-next : {s : List ℕ} {at n : ℕ} {j : Job} {p : ℕ} → RowIs s at n (one j p) → (p ≤ at + 8) × (n < mostJobs)
 row-next (row-here b h few t) = (omega arith, few)
 row-next (row-either b h few t u v) = (omega arith, few)
-
-pub end-next : {s : List ℕ} {at n p : ℕ} → RowIs s at n (last p) → p ≡ at + 1
-end-next (row-end b h) = refl
 
 -- the record after n jobs begins at 3 + 8 n at the latest, and n is at most 32
 pub record Near (js : List Job) (at : ℕ) : Type 0 where

@@ -29,7 +29,8 @@ use Rattle.table.specs.Tables.{deadlineAt, frameAt, rowBody, jobAt, jobEntry, j
 use Rattle.table.proofs.Records.{rowLength, stepLength, form-all}
 use Rattle.table.proofs.Tables.{rowEntry, row-is}
 use Rattle.listing.specs.Listing.{outcomeText, textOf}
-use Rattle.listing.proofs.Places.{Near, near-first, near-next, end-next}
+use Rattle.table.proofs.Written.{end-next}
+use Rattle.listing.proofs.Places.{Near, near-first, near-next}
 
 -- no body has more than seven bytes
 row-short : (k : RowKind) → rowLength k ≤ 7

@@ -26,7 +26,7 @@ use Rattle.plan.specs.Plans.{stepsOf}
 use Rattle.plan.proofs.Steps.{steps-of-plan}
 use Rattle.draft.specs.declared.Drafted.{Drafted}
 use Rattle.draft.specs.Drafts.{stepsFor, draftOf, draftedOf}
-use Rattle.planner.proofs.Reading.{WholeRead}
+use Rattle.table.proofs.Reading.{WholeRead}
 use Rattle.text.specs.Writing.{Wrote}
 use Rattle.text.proofs.Writing.{written-front}
 use Rattle.listing.specs.declared.Listed.{Listed}

@@ -57,7 +57,7 @@ wait-away c t = step (c .away) t
     step true t = refl
     step false t = absurd t
 
-wait-here : (c : Chosen) → T (here c) → wait c ≡ 0
+pub wait-here : (c : Chosen) → T (here c) → wait c ≡ 0
 wait-here c t = step (c .away) t
   where
     step : (b : Bool) → T (not b) → cond b (back c) 0 ≡ 0

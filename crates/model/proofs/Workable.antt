@@ -1,7 +1,7 @@
 -- Workable, told by the jobs in away order: the away ones meet D, and the busy total is at most D. And the tie rule is the order of the masks.
 -- Assumes nothing.
 use mathlib.Core.Path.{_≡_, refl, sym, ap, subst, _∙_}
-use mathlib.Core.Bool.{Bool, true, false, cond, not}
+use mathlib.Core.Bool.{Bool, true, false, cond}
 use mathlib.Core.List.{List, [], _∷_, _++_, map, reverse, reverse-cons, reverse-reverse, Permᴰ·reverse}
 use Prim.Native.Nat.{ℕ, suc, _+_, _^_, _≤_, _<_}
 use native.Mathlib.Omega.{arith}
@@ -14,7 +14,7 @@ use Rattle.model.specs.FreeOrder.{back, awayOrder, isAway, Fits, Workabl
 use Rattle.model.specs.Recurrence.{mask}
 use Rattle.model.proofs.Lists.{clash, all-passed}
 use Rattle.model.proofs.Permutations.{total-perm, total-append}
-use Rattle.model.proofs.PlanOrder.{perm-plan}
+use Rattle.model.proofs.PlanOrder.{perm-plan, wait-here}
 use Rattle.model.proofs.Rows.{setupPart, Feasible}
 use Rattle.model.proofs.Columns.{setups-le}
 
@@ -83,13 +83,6 @@ module _ (D : ℕ) where
       step : (w : Bool) → x .away ≡ w → Fits D (0 + total span (filter isAway (reverse xs))) (cond w (x ∷ []) []) → T (x .away) → setupPart x + total setupPart xs + back x ≤ D
       step true e g t = omega (arith, away-parts x e, setups-reverse xs, g .0)
       step false e g t = absurd (subst T e t)
-
-  wait-here : (c : Chosen) → T (here c) → wait c ≡ 0
-  wait-here c t = step (c .away) t
-    where
-      step : (b : Bool) → T (not b) → cond b (back c) 0 ≡ 0
-      step true t = absurd t
-      step false t = refl
 
   here-fits : (t : ℕ) (xs : List Chosen) → All (λ (c : Chosen). T (here c)) xs → t + total span xs ≤ D → Fits D t xs
   here-fits t [] a h = tt

@@ -22,7 +22,7 @@ use Rattle.draft.proofs.Drafts.{steps-length}
 use Rattle.planner.specs.declared.Planned.{Planned}
 use Rattle.planner.specs.declared.Planned.the-variants.{PlanWritten, NotPlanned}
 use Rattle.planner.specs.Answers.{PlanAnswer, no-plan, planned, Finishes}
-use Rattle.planner.proofs.Reading.{WholeRead}
+use Rattle.table.proofs.Reading.{WholeRead}
 
 module _ (made : Drafted) (o : Option (List Chosen)) (e : made ≡ draftedOf o) (before : List ℕ) where
   pub finish-none : made .found ≡ false → Finishes o before (NotPlanned None) before

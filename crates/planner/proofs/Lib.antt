@@ -1,4 +1,3 @@
-pub mod Reading
 pub mod Finishing
 pub mod Orders
 pub mod Settled

@@ -20,7 +20,7 @@ use Rattle.draft.specs.declared.Drafted.{Drafted}
 use Rattle.draft.specs.Drafts.{draftedOf}
 use Rattle.planner.specs.declared.Planned.{Planned}
 use Rattle.planner.specs.Answers.{BestPlan, FreeAnswer, GivenAnswer, Finishes}
-use Rattle.planner.proofs.Reading.{WholeRead}
+use Rattle.table.proofs.Reading.{WholeRead}
 use Rattle.planner.proofs.Finishing.{found-few, answered}
 
 choice-many : (js : List Job) (cs : List Chosen) → Choice js cs → length cs ≡ length js

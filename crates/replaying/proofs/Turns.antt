@@ -28,7 +28,7 @@ unfolding after
 nothing zero f s e = refl
 nothing (suc m) f s e = simp (eq-eqb _ _ e)
 
-empty : (s : List ℕ) → length s ≡ 0 → recordSize s ≡ 0
+pub empty : (s : List ℕ) → length s ≡ 0 → recordSize s ≡ 0
 unfolding recordSize
 empty s h = simp (eq-eqb _ _ h)
 

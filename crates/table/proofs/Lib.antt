@@ -5,3 +5,4 @@ pub mod Accepted
 pub mod Written
 pub mod Refusals
 pub mod ReadBack
+pub mod Reading

@@ -98,7 +98,7 @@ row-next : {s : List ℕ} {at n : ℕ} {j : Job} {p : ℕ} → RowIs s at n (one
 row-next (row-here b h few t) = omega arith
 row-next (row-either b h few t u v) = omega arith
 
-end-next : {s : List ℕ} {at n p : ℕ} → RowIs s at n (last p) → p ≡ at + 1
+pub end-next : {s : List ℕ} {at n p : ℕ} → RowIs s at n (last p) → p ≡ at + 1
 end-next (row-end b h) = refl
 
 pub accepted-length : (s : List ℕ) (t : JobTable) → readTable s ≡ accepted t → length s ≤ longestTable

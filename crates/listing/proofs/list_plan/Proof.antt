@@ -4,7 +4,7 @@ use mathlib.Core.Path.{refl, ap}
 use native.Mathlib.Omega.{arith}
 use denote.Ref.{now}
 use lib.ListN.{length}
-use Rattle.planner.proofs.Reading.{read-refused, read-whole}
+use Rattle.table.proofs.Reading.{read-refused, read-whole}
 use Rattle.planner.proofs.Orders.{free-few}
 use Rattle.listing.specs.Listing.{no-room}
 use Rattle.listing.proofs.Short.{text-short}

@@ -1,5 +1,5 @@
 use borrow.Author.Needs.{needs}
-use Rattle.planner.proofs.Reading.{read-refused, read-whole}
+use Rattle.table.proofs.Reading.{read-refused, read-whole}
 use Rattle.table.specs.Tables.{jobTable}
 use Rattle.planner.specs.Answers.{bad-table, never-met, met-from}
 use mathlib.Core.Path.{refl}

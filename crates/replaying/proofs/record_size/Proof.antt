@@ -9,16 +9,13 @@ use denote.Ref.{now}
 use borrow.Author.Tests.{ne-eqb, eq-eqb, lt-ltb, le-ltb}
 use Rattle.replaying.specs.Log.{byteAt, low16, headSize, whole, sizeOf, recordSize}
 use borrow.Author.Needs.{needs}
+use Rattle.replaying.proofs.Turns.{empty}
 use Rattle.replaying.proofs.record_size.Statement.{statement}
 use Rattle.replaying.proofs.record_size.Tie as tie
 
 filled : (s : List ℕ) → (length s ≡ 0 → ⊥) → recordSize s ≡ sizeOf s (headSize (byteAt s 0))
 unfolding recordSize
 filled s h = simp (ne-eqb _ _ h)
-
-empty : (s : List ℕ) → length s ≡ 0 → recordSize s ≡ 0
-unfolding recordSize
-empty s h = simp (eq-eqb _ _ h)
 
 cut : (s : List ℕ) (h : ℕ) → length s < h → sizeOf s h ≡ 0
 unfolding sizeOf

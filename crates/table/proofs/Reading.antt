@@ -1,16 +1,16 @@
--- What the planners learn from a reading: the refusal, or a sound table that means what was read.
+-- What a caller of `read_table` learns from its answer: the refusal, or a sound table that means what was read.
 -- Assumes nothing.
 use mathlib.Core.Path.{_≡_, refl, sym, ap, subst, _∙_}
 use mathlib.Core.List.{List}
 use Prim.Native.Nat.{ℕ}
 use Rattle.model.proofs.Lists.{clash}
 use Rattle.table.specs.declared.refusal.Refusal.{Refusal}
 use Rattle.table.specs.declared.Table.{Table}
 use Rattle.table.specs.declared.TableVerdict.the-variants.{Whole, Refused}
 use Rattle.table.specs.declared.TableRead.{TableRead}
 use Rattle.table.specs.Refusals.{Outcome, accepted, refused}
 use Rattle.table.specs.Tables.{JobTable, readTable, tableRead, jobTable, tableOf, Sound}
 use Rattle.table.proofs.Accepted.{accepted-good, held-table, held-sound}
 
 -- the bytes are a table's, and u holds it
 pub record WholeRead (s : List ℕ) (u : Table) : Type 0 where
