@@ -1,4 +1,4 @@
-//! A deterministic generator of tables, plans and runs of calls, and of their damage.
+//! A deterministic generator of tables, plans and logs of calls, and of their damage.
 
 pub mod calls;
 mod damage;
@@ -10,6 +10,15 @@ pub use random::Random;
 use crate::plan::{self, Choice, Record};
 use crate::planner;
 use crate::table::{Job, Offload, Table};
+
+/// Table E of document 01.
+pub const E: [u8; 24] = [
+    0x10, 0x2D, 0x00, 0x12, 0x01, 0x1E, 0x00, 0x05, 0x00, 0x28, 0x00, 0x12, 0x02, 0x14, 0x00, 0x0A,
+    0x00, 0x0A, 0x00, 0x11, 0x03, 0x19, 0x00, 0x1F,
+];
+
+/// The free-order plan of table E.
+pub const E_PLAN: [u8; 7] = [0x21, 1, 0x21, 2, 0x20, 3, 0x2F];
 
 /// A table with distinct ids and times within a largest one, and a deadline that some of
 /// its choices may meet. Zeros, equal times and ties come up often.

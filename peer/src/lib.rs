@@ -14,6 +14,7 @@ pub mod library;
 pub mod listing;
 pub mod plan;
 pub mod planner;
+#[cfg(proved)]
 #[allow(unsafe_code)]
 pub mod proved;
 mod records;

@@ -3,15 +3,17 @@
 
 use crate::check::check_plan;
 use crate::planner::{least_deadline, plan_free, plan_given, Planned};
+#[cfg(proved)]
+use crate::proved;
 use crate::refusal::Refusal;
 
 /// A refusal as figures.
 #[derive(Clone, Copy, Debug, PartialEq, Eq)]
 pub struct Refused {
     /// Document 01's number.
-    pub number: u64,
-    /// The place, 0 where the refusal has none.
-    pub place: u64,
+    pub number: u8,
+    /// The place, where the refusal has one.
+    pub place: Option<u64>,
 }
 
 /// The figures of an accepted call, or its refusal. A planner gives plan length, busy total
@@ -22,38 +24,56 @@ pub type Answer = Result<[u64; 3], Refused>;
 /// A planner: table and output area.
 pub type Planner = fn(&[u8], &mut [u8]) -> Answer;
 
-/// The check: table and plan.
-pub type Check = fn(&[u8], &[u8]) -> Answer;
-
 /// One program of document 01's planners and check.
 #[derive(Clone, Copy)]
 pub struct Library {
-    /// Its name in reports.
-    pub name: &'static str,
     /// The free-order planner.
     pub plan_free: Planner,
     /// The given-order planner.
     pub plan_given: Planner,
     /// The least deadline of a table.
     pub least_deadline: fn(&[u8]) -> Answer,
-    /// The check of a table and a plan, where the program has one.
-    pub check_plan: Option<Check>,
+    /// The check of a table and a plan.
+    pub check_plan: fn(&[u8], &[u8]) -> Answer,
 }
 
 impl Library {
     /// This program.
     pub fn peer() -> Library {
         Library {
-            name: "peer",
             plan_free: |table, area| answer(plan_free(table, area), planned),
             plan_given: |table, area| answer(plan_given(table, area), planned),
             least_deadline: |table| answer(least_deadline(table), |least| [least.into(), 0, 0]),
-            check_plan: Some(|table, plan| {
+            check_plan: |table, plan| {
                 answer(check_plan(table, plan), |passed| {
                     [passed.last.into(), passed.busy.into(), 0]
                 })
-            }),
+            },
         }
+    }
+
+    /// The proved library, if this build holds it.
+    #[cfg(not(proved))]
+    pub fn proved() -> Option<Library> {
+        None
+    }
+
+    /// The proved library, if this build holds it.
+    #[cfg(proved)]
+    pub fn proved() -> Option<Library> {
+        fn planned(planned: proved::Planned) -> [u64; 3] {
+            [planned.length as u64, planned.busy, planned.last]
+        }
+        Some(Library {
+            plan_free: |table, area| answer(proved::plan_free(table, area), planned),
+            plan_given: |table, area| answer(proved::plan_given(table, area), planned),
+            least_deadline: |table| answer(proved::least_deadline(table), |least| [least, 0, 0]),
+            check_plan: |table, plan| {
+                answer(proved::check_plan(table, plan), |passed| {
+                    [passed.last, passed.busy, 0]
+                })
+            },
+        })
     }
 }
 
@@ -65,9 +85,28 @@ fn planned(planned: Planned) -> [u64; 3] {
     ]
 }
 
-fn answer<T>(result: Result<T, Refusal>, figures: impl FnOnce(T) -> [u64; 3]) -> Answer {
-    result.map(figures).map_err(|refusal| Refused {
-        number: refusal.number().into(),
-        place: refusal.place().unwrap_or(0) as u64,
-    })
+fn answer<T, E: Into<Refused>>(
+    result: Result<T, E>,
+    figures: impl FnOnce(T) -> [u64; 3],
+) -> Answer {
+    result.map(figures).map_err(Into::into)
+}
+
+impl From<Refusal> for Refused {
+    fn from(refusal: Refusal) -> Refused {
+        Refused {
+            number: refusal.number(),
+            place: refusal.place().map(|place| place as u64),
+        }
+    }
+}
+
+#[cfg(proved)]
+impl From<proved::Refusal> for Refused {
+    fn from(refusal: proved::Refusal) -> Refused {
+        Refused {
+            number: refusal.number(),
+            place: refusal.place(),
+        }
+    }
 }

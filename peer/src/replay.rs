@@ -112,16 +112,7 @@ impl<'a> Call<'a> {
                 number,
                 table,
                 plan,
-            } => {
-                run.push(BEGIN);
-                run.extend(number.to_le_bytes());
-                for part in [table, plan] {
-                    let length = u16::try_from(part.len()).expect("two bytes of length");
-                    run.extend(length.to_le_bytes());
-                }
-                run.extend(table);
-                run.extend(plan);
-            }
+            } => write_begin(run, number, table, plan),
             Call::Next => run.push(NEXT),
             Call::SpanEnd { id, time, value } => {
                 run.extend([SPAN_END, id]);
@@ -195,6 +186,17 @@ impl<'a> Call<'a> {
         }
         Ok("accepted".to_string())
     }
+}
+
+fn write_begin(run: &mut Vec<u8>, number: u32, table: &[u8], plan: &[u8]) {
+    run.push(BEGIN);
+    run.extend(number.to_le_bytes());
+    for part in [table, plan] {
+        let length = u16::try_from(part.len()).expect("two bytes of length");
+        run.extend(length.to_le_bytes());
+    }
+    run.extend(table);
+    run.extend(plan);
 }
 
 fn take<const LENGTH: usize>(run: &mut &[u8]) -> Option<[u8; LENGTH]> {

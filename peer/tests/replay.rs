@@ -3,7 +3,7 @@
 mod common;
 
 use common::{E, E_PLAN};
-use peer::generate::{calls, Random};
+use peer::generate::{calls, Damage, Random};
 use peer::replay::{replay, Call, LONGEST};
 
 fn run(calls: &[Call]) -> Vec<u8> {
@@ -123,27 +123,96 @@ fn a_long_run_is_judged_by_its_first_bytes() {
     assert!(replay(&cut).ends_with("\nstopped at 65535\n"));
 }
 
-#[test]
-fn generated_runs_reach_every_answer() {
-    let mut random = Random::new(31);
-    let text: String = (0..3_000)
-        .map(|_| replay(&calls::run(&mut random)))
-        .collect();
+/// How often a text has a line that opens with some words.
+fn lines(text: &str, words: &str) -> usize {
+    let rest = |line: &str| line.strip_prefix(words).map(str::to_string);
+    let ends = |rest: &String| rest.is_empty() || rest.starts_with(' ');
+    text.lines().filter_map(rest).filter(ends).count()
+}
+
+fn assert_every_answer(text: &str) {
     for words in [
         "next none",
-        "read fresh ",
+        "read fresh",
         "read pending",
         "read late",
         "read missing",
     ] {
-        assert!(text.contains(&format!("\n{words}")), "{words}");
+        assert!(lines(text, words) > 50, "{words}");
     }
     for call in ["begin", "span", "return", "close"] {
-        assert!(text.contains(&format!("\n{call} accepted\n")), "{call}");
+        assert!(lines(text, &format!("{call} accepted")) > 50, "{call}");
     }
-    for number in (1..=17).filter(|&number| number != 7) {
-        let words = format!(" refused {number}");
-        let ends = ["\n", " at "].map(|end| text.contains(&(words.clone() + end)));
-        assert!(ends.contains(&true), "{words}");
+    for (call, numbers) in [
+        ("begin", &[1, 2, 3, 4, 5, 6, 8, 9, 10, 11, 12, 13][..]),
+        ("next", &[12]),
+        ("span", &[12, 14, 15, 16]),
+        ("return", &[12, 13, 14, 15, 16]),
+        ("close", &[12, 14, 17]),
+        ("read", &[12, 15]),
+    ] {
+        for number in numbers {
+            let words = format!("{call} refused {number}");
+            assert!(lines(text, &words) > 5, "{words}");
+        }
+    }
+}
+
+#[test]
+fn generated_frames_reach_every_answer() {
+    let mut random = Random::new(31);
+    let logs = (0..2_000).map(|_| calls::frames(&mut random, 3));
+    let text: String = logs.map(|log| replay(&log)).collect();
+    assert_eq!(lines(&text, "stopped"), 0);
+    assert_every_answer(&text);
+}
+
+#[test]
+fn generated_calls_in_any_order_reach_every_answer() {
+    let mut random = Random::new(32);
+    let logs = (0..1_200).map(|_| calls::wild(&mut random, 200));
+    let text: String = logs.map(|log| replay(&log)).collect();
+    assert_eq!(lines(&text, "stopped"), 0);
+    assert_eq!(text.lines().count(), 1_200 * 200);
+    assert_every_answer(&text);
+}
+
+/// A long log does not run dry: frames are begun up to its end.
+#[test]
+fn generated_long_logs_begin_frames_to_the_end() {
+    let mut random = Random::new(33);
+    for _ in 0..20 {
+        let log = calls::frames_up_to(&mut random, LONGEST);
+        assert!(log.len() >= LONGEST);
+        let text = replay(&log);
+        let second_half = &text[text.len() / 2..];
+        if lines(&text, "begin accepted") > 100 {
+            assert!(lines(second_half, "begin accepted") > 20);
+            assert!(lines(second_half, "read fresh") > 20);
+            return;
+        }
+    }
+    panic!("no log with many frames");
+}
+
+/// Of a damaged log as many lines as calls that stand before the damage are the same.
+#[test]
+fn damage_changes_nothing_before_it() {
+    let mut random = Random::new(34);
+    for _ in 0..500 {
+        let log = calls::frames(&mut random, 3);
+        let mut damaged = log.clone();
+        random.pick(&Damage::ALL).apply(&mut random, &mut damaged);
+        let same = log
+            .iter()
+            .zip(&damaged)
+            .take_while(|(one, other)| one == other);
+        let before = replay(&log[..same.count()]);
+        let whole_lines = before.lines().filter(|line| !line.starts_with("stopped"));
+        let (text, damaged_text) = (replay(&log), replay(&damaged));
+        let mut lines = text.lines().zip(damaged_text.lines());
+        for line in whole_lines {
+            assert_eq!(lines.next(), Some((line, line)));
+        }
     }
 }

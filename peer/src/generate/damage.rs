@@ -23,6 +23,17 @@ impl Damage {
         Damage::Lost,
     ];
 
+    /// Its name in reports.
+    pub fn name(self) -> &'static str {
+        match self {
+            Damage::Whole => "whole",
+            Damage::Cut => "cut",
+            Damage::Flipped => "flipped",
+            Damage::Inserted => "inserted",
+            Damage::Lost => "lost",
+        }
+    }
+
     /// Does it to a byte string, at one to three places.
     pub fn apply(self, random: &mut Random, bytes: &mut Vec<u8>) {
         for _ in 0..1 + random.below(3) / 2 + random.below(3) / 2 {
@@ -30,7 +41,7 @@ impl Damage {
             let inside = place < bytes.len();
             match self {
                 Damage::Cut => bytes.truncate(place),
-                Damage::Flipped if inside => bytes[place] ^= 1 << random.below(8),
+                Damage::Flipped if inside => bytes[place] ^= flips(random),
                 Damage::Inserted => bytes.insert(place, any_byte(random)),
                 Damage::Lost if inside => {
                     bytes.remove(place);
@@ -38,6 +49,15 @@ impl Damage {
                 _ => {}
             }
         }
+    }
+}
+
+/// The bits that are flipped in a byte: one, all, or any.
+fn flips(random: &mut Random) -> u8 {
+    match random.below(4) {
+        0 => 0xFF,
+        1 => random.byte(),
+        _ => 1 << random.below(8),
     }
 }
 

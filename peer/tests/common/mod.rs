@@ -2,18 +2,11 @@
 
 #![allow(dead_code)]
 
+#[allow(unused_imports)]
+pub use peer::generate::{E, E_PLAN};
 use peer::planner::{plan_free, plan_given, Planned};
 use peer::refusal::Refusal;
 use peer::table::{Job, Offload, Table};
-
-/// Table E of document 01.
-pub const E: [u8; 24] = [
-    0x10, 0x2D, 0x00, 0x12, 0x01, 0x1E, 0x00, 0x05, 0x00, 0x28, 0x00, 0x12, 0x02, 0x14, 0x00, 0x0A,
-    0x00, 0x0A, 0x00, 0x11, 0x03, 0x19, 0x00, 0x1F,
-];
-
-/// The free-order plan of table E.
-pub const E_PLAN: [u8; 7] = [0x21, 1, 0x21, 2, 0x20, 3, 0x2F];
 
 pub fn e(deadline: u16) -> Vec<u8> {
     Table {
