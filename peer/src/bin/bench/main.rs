@@ -6,6 +6,7 @@
 mod growth;
 mod plot;
 mod runner;
+mod shift;
 mod timing;
 
 use std::hint::black_box;
@@ -20,7 +21,7 @@ use timing::{time, Timed};
 
 const TABLES: usize = 24;
 const SECONDS: f64 = 2.0;
-const USAGE: &str = "usage: bench [--plot PATH] [--replay PATH]";
+const USAGE: &str = "usage: bench [--plot PATH] [--replay PATH] [--shift PATH]";
 
 fn main() -> ExitCode {
     let arguments = match Arguments::read(std::env::args().skip(1)) {
@@ -40,6 +41,10 @@ fn main() -> ExitCode {
     if let Some(path) = &arguments.plot {
         std::fs::write(path, plot::svg(&growths)).expect("the plot's file");
     }
+    match arguments.shift.is_file() {
+        true => shift::print(&arguments.shift),
+        false => println!("there is no program {}\n", arguments.shift.display()),
+    }
     runner::print(&arguments.replay);
     ExitCode::SUCCESS
 }
@@ -49,18 +54,22 @@ struct Arguments {
     /// Where the plot goes, if it is wanted.
     plot: Option<PathBuf>,
     replay: PathBuf,
+    /// A program that plays many frames and prints what came of them; left out where it is
+    /// missing.
+    shift: PathBuf,
 }
 
 impl Arguments {
     fn read(mut arguments: impl Iterator<Item = String>) -> Result<Arguments, String> {
+        let folder = PathBuf::from(concat!(env!("CARGO_MANIFEST_DIR"), "/../target/bin"));
+        let (mut replay, mut shift) = (folder.join("replay"), folder.join("shift"));
         let mut plot = None;
-        let mut replay =
-            PathBuf::from(concat!(env!("CARGO_MANIFEST_DIR"), "/../target/bin/replay"));
         while let Some(name) = arguments.next() {
             let value = arguments.next().ok_or(USAGE)?;
             match name.as_str() {
                 "--plot" => plot = Some(value.into()),
                 "--replay" => replay = value.into(),
+                "--shift" => shift = value.into(),
                 _ => return Err(USAGE.to_string()),
             }
         }
@@ -75,6 +84,7 @@ impl Arguments {
             proved,
             plot,
             replay,
+            shift,
         })
     }
 }
@@ -115,6 +125,8 @@ impl Input {
 /// A function of the library, called on an input.
 type Call = fn(&Library, &Input) -> Answer;
 
+const CHECK: &str = "zb_check_plan";
+
 const CALLS: [(&str, Call); 4] = [
     ("zb_plan_free", plan_free),
     ("zb_plan_given", |library, input| {
@@ -123,7 +135,7 @@ const CALLS: [(&str, Call); 4] = [
     ("zb_least_deadline", |library, input| {
         (library.least_deadline)(&input.table)
     }),
-    ("zb_check_plan", |library, input| {
+    (CHECK, |library, input| {
         (library.check_plan)(&input.table, &input.plan)
     }),
 ];
@@ -139,31 +151,35 @@ fn plan(planner: Planner, input: &Input) -> Answer {
     answer
 }
 
-/// Each function on large, middling and small tables.
-fn calls(sides: &Sides) {
+/// Large, middling and small tables, with their names.
+fn sets() -> [(&'static str, Vec<Input>); 3] {
     let mut random = Random::new(1);
-    let sets = [
-        (
-            "32 either jobs, D 4,000",
-            Input::either_jobs(&mut random, TABLES, 32, 4000),
-        ),
-        (
-            "8 either jobs, D 500",
-            Input::either_jobs(&mut random, TABLES, 8, 500),
-        ),
+    let large = Input::either_jobs(&mut random, TABLES, 32, 4000);
+    let middling = Input::either_jobs(&mut random, TABLES, 8, 500);
+    [
+        ("32 either jobs, D 4,000", large),
+        ("8 either jobs, D 500", middling),
         ("table E: 3 jobs, D 45", vec![Input::new(E.to_vec())]),
-    ];
+    ]
+}
+
+/// Each function on each set of tables.
+fn calls(sides: &Sides) {
     println!(
         "| call | table | tables | calls on each side | proved, us | plain Rust, us | ratio of \
          medians | ratio by pairs, 10th to 90th percentile |"
     );
     println!("|---|---|---|---|---|---|---|---|");
+    let sets = sets();
     let mut checks = Vec::new();
     for (name, call) in CALLS {
         for (set, inputs) in &sets {
             let timed = time(sides, inputs, call, SECONDS);
-            print_call(name, set, inputs.len(), &timed);
-            if name == "zb_check_plan" {
+            let accepted = inputs
+                .iter()
+                .filter(|input| call(&sides.plain, input).is_ok());
+            print_call(name, set, (inputs.len(), accepted.count()), &timed);
+            if name == CHECK {
                 checks.push((set, timed));
             }
         }
@@ -178,7 +194,11 @@ fn calls(sides: &Sides) {
     println!();
 }
 
-fn print_call(name: &str, set: &str, tables: usize, timed: &Timed) {
+fn print_call(name: &str, set: &str, (tables, accepted): (usize, usize), timed: &Timed) {
+    let tables = match tables - accepted {
+        0 => tables.to_string(),
+        refused => format!("{tables}, {refused} of them refused"),
+    };
     let (low, high) = timed.spread();
     println!(
         "| `{name}` | {set} | {tables} | {} | {} | {} | {:.2} | {low:.2} to {high:.2} |",
@@ -192,7 +212,7 @@ fn print_call(name: &str, set: &str, tables: usize, timed: &Timed) {
 /// Microseconds with three digits or more.
 fn micros(time: f64) -> String {
     match time {
-        100.0.. => format!("{time:.0}"),
+        100.0.. => thousands(time.round() as u64),
         10.0.. => format!("{time:.1}"),
         1.0.. => format!("{time:.2}"),
         _ => format!("{time:.3}"),
