@@ -2,7 +2,10 @@
 use draft::Draft;
 use draft::Drafted;
 use model::Job;
+use model::Laid;
 use model::Sending;
+use plan::Plan;
+use plan::Step;
 use table::Table;
 ghost use mathlib.Core.Path.{_≡_};
 ghost use Prim.Native.Nat.{_≤_};
@@ -55,18 +58,19 @@ fn decided(d: u32, t: u32, job: Job) -> Decision
     }
 }
 
-// The plan in table order, if there is one.
+// The plan in table order, if there is one. Every job is listed, so the i-th step is the i-th job's, and is written where it stays.
 pub fn given_plan(t: Table) -> Drafted
     requires { ⌜ t .count ≤ mostJobs ⌝ }
     ensures { λ r. ⌜ r ≡ draftedOf (given (t .deadline) 0 (take (t .count) (t .jobs))) ⌝ }
 {
     let d = t.deadline as u32;
     let n = t.count;
-    let mut draft = Draft::empty();
+    let mut steps = [Step { id: 0, away: false }; Table::MOST_JOBS];
+    let mut laid = Laid { busy: 0, last: 0 };
     let mut i = 0;
     while i < n {
         let job = t.jobs[i];
-        let decision = decided(d, draft.laid.busy, job);
+        let decision = decided(d, laid.busy, job);
         let Decision::Run(away) = decision else {
             let nothing = Draft::empty();
             return Drafted {
@@ -74,8 +78,11 @@ pub fn given_plan(t: Table) -> Drafted
                 draft: nothing,
             };
         };
-        draft = draft.with_job(job, away);
+        steps[i] = Step { id: job.id, away };
+        laid = laid.with(job, away);
         i += 1;
     }
+    let plan = Plan { count: i, steps };
+    let draft = Draft { plan, laid };
     Drafted { found: true, draft }
 }

@@ -1,6 +1,6 @@
 -- The totals and masks hold the recurrence's row: before the first job, and after each job more.
 -- Assumes nothing.
-use mathlib.Core.Path.{_≡_, refl, sym, subst, _∙_}
+use mathlib.Core.Path.{_≡_, refl, sym, ap, subst, _∙_}
 use mathlib.Core.Logic.{_⊎_, inl, inr}
 use mathlib.Core.Bool.{Bool, true, false}
 use mathlib.Core.List.{List, [], _∷_}
@@ -9,36 +9,30 @@ use native.Mathlib.Omega.{arith}
 use native.Mathlib.Nat.{two-pow-succ, pow-le-pow-right}
 use borrow.Author.Tests.{leb-true, leb-false, ltb-true, ltb-false}
 use lib.Dec.{leb, ltb}
-use lib.ListN.{length, getD, set, replicate, length-set, length-replicate, getD-replicate}
-use lib.Seq.{getD-set-same, getD-set-other}
+use lib.ListN.{length, getD, replicate, length-replicate, getD-replicate}
 use Rattle.model.specs.declared.Job.{Job}
 use Rattle.model.specs.Timetable.{setupTime, returnTime}
 use Rattle.model.specs.Recurrence.{cell, row, Holds}
 use Rattle.model.proofs.Bounds.{row-bounds}
 use Rattle.model.proofs.Held.{next-sent, next-kept}
 use Rattle.rows.specs.Rows.{nothing}
-use Rattle.rows.specs.Columns.{Fit, lower, Stepped, Column, Rows}
+use Rattle.rows.specs.Columns.{Fit, Kept, lower, Stepped, Column, Rows}
 
 -- the same column by other names of its numbers
 column-at : {D : ℕ} {os : List Job} {t x y x' y' : ℕ} → x' ≡ x → y' ≡ y → Column D os t x y → Column D os t x' y'
 column-at {D} {os} {t} {x} {y} {x'} {y'} p q c = subst (λ (u : ℕ). Column D os t u y') (sym p) (subst (Column D os t x) (sym q) c)
 
 -- before the first job: column 0 has the total 0, and every other stands for nothing
-pub rows-start : (D n : ℕ) → n ≡ 4001 → D ≤ 4000 → Rows D [] (set (replicate n nothing) 0 0) (replicate n zero)
-rows-start D n e h =
-    record {
-      totalColumns = length-set (replicate n nothing) 0 0 ∙ length-replicate n nothing ∙ e;
-      maskColumns = length-replicate n zero ∙ e;
-      each = at;
-      locals = omega arith;
-    }
+pub rows-start : (D n : ℕ) (ts : List ℕ) → n ≡ 4001 → D ≤ 4000 → Kept 1 (D + 1) nothing (replicate n zero) ts → Rows D [] ts (replicate n zero)
+rows-start D n ts e h k =
+    record { totalColumns = k .columns; maskColumns = length-replicate n zero ∙ e; each = at; locals = omega arith }
   where
-    at : (t : ℕ) → t ≤ D → Column D [] t (getD (set (replicate n nothing) 0 0) t 0) (getD (replicate n zero) t 0)
+    at : (t : ℕ) → t ≤ D → Column D [] t (getD ts t 0) (getD (replicate n zero) t 0)
     at zero l =
-        column-at (getD-set-same (replicate n nothing) 0 0 0 (omega (arith, length-replicate n nothing))) (getD-replicate n 0 zero 0 (omega arith))
+        column-at (k .outside 0 (inl (omega arith)) ∙ getD-replicate n 0 zero 0 (omega arith)) (getD-replicate n 0 zero 0 (omega arith))
         (record { held = (refl, refl, omega arith); low = omega arith; bits = omega arith })
     at (suc t) l =
-        column-at (getD-set-other (replicate n nothing) 0 (suc t) 0 0 (omega arith) ∙ getD-replicate n (suc t) nothing 0 (omega arith)) (getD-replicate n (suc t) zero 0 (omega arith))
+        column-at (k .inside (suc t) (omega arith) (omega arith) ∙ ap (λ (x : ℕ). x + nothing) (getD-replicate n (suc t) zero 0 (omega arith))) (getD-replicate n (suc t) zero 0 (omega arith))
         (record { held = omega arith; low = omega arith; bits = omega arith })
 
 -- what goes with the lower of two totals

@@ -142,9 +142,10 @@ pub fn least(d: usize, base: u32, jobs: [Job; Table::MOST_JOBS], count: usize) -
     requires { ⌜ Ready d base jobs count ⌝ }
     ensures { λ r. ⌜ Single r × Holds nothing (r .total) (r .mask) (bestBelow d (reverse (take count jobs)) base (suc d)) ⌝ }
 {
-    let mut totals = [NOTHING; 4001];
+    let mut totals = [0u32; 4001];
     let mut masks = [0u32; 4001];
-    totals[0] = 0;
+    // Before the first job only column 0 is reached. Those above d are not looked at, and stay as they are.
+    keep(&mut totals, 1, d + 1, NOTHING);
     for k in 0..count {
         let job = jobs[k];
         add_job(&mut totals, &mut masks, d, job, 1 << k);

@@ -2,10 +2,10 @@
 -- Assumes nothing.
 use mathlib.Core.Path.{_≡_, refl}
 use mathlib.Core.List.{reverse}
-use Prim.Native.Nat.{_-_, _≤_}
+use Prim.Native.Nat.{zero, _-_, _≤_}
 use native.Mathlib.Omega.{arith}
 use borrow.Author.Needs.{needs}
-use lib.ListN.{take}
+use lib.ListN.{take, getD-replicate}
 use Rattle.rows.specs.Columns.{Rows}
 use Rattle.rows.proofs.Rows.{rows-start}
 use Rattle.rows.proofs.Jobs.{taken-length, job-fits, job-added}
@@ -18,11 +18,16 @@ Inv-loop d base count jobs totals₀ masks₀ k₀ totals masks k = (k ≤ count
 abbrev μ-loop : tie.MeasureT-loop
 μ-loop d base count jobs totals₀ masks₀ k₀ totals masks k = count - k
 
-array-write-totals : tie.Need-array-write-totals Inv-loop μ-loop
-array-write-totals c = search needs
+add-keep : tie.Need-add-keep Inv-loop μ-loop
+add-keep c = omega (arith, c .before .pre .deadline)
+
+keep-requires : tie.Need-keep-requires Inv-loop μ-loop
+keep-requires c κs =
+    let low = c .before .pre .deadline in
+    (refl, omega arith, omega arith, (λ t h. omega (arith, getD-replicate 4001 t zero 0 (omega arith))))
 
 loop-holds : tie.Need-loop-holds Inv-loop μ-loop
-loop-holds c = (omega arith, rows-start _ 4001 refl (c .pre .deadline))
+loop-holds c = (omega arith, rows-start _ 4001 _ refl (c .before .before .pre .deadline) (c .keep .ensures))
 
 mul-job : tie.Need-mul-job Inv-loop μ-loop
 mul-job c = search needs
@@ -39,8 +44,8 @@ shl-add-job c = search needs
 add-job-requires : tie.Need-add-job-requires Inv-loop μ-loop
 add-job-requires c κs =
     let r = c .before .before .before .before .loop .inv .1 in
-    let f = job-fits _ _ _ _ _ _ _ _ (c .before .before .before .before .before .good .1 .1 .0 .1 .0 .1) (c .before .before .before .before .before .pre) (c .before .before .before .loop-test .taken) r in
-    (r .totalColumns, r .maskColumns, c .before .before .before .before .before .pre .deadline, f .0, f .1)
+    let f = job-fits _ _ _ _ _ _ _ _ (c .before .before .before .before .before .before .before .good .1 .1 .0 .1 .0 .1) (c .before .before .before .before .before .before .before .pre) (c .before .before .before .loop-test .taken) r in
+    (r .totalColumns, r .maskColumns, c .before .before .before .before .before .before .before .pre .deadline, f .0, f .1)
 
 add-k : tie.Need-add-k Inv-loop μ-loop
 add-k c = search needs
@@ -49,23 +54,23 @@ loop-less : tie.Need-loop-less Inv-loop μ-loop
 loop-less c = search needs
 
 loop-again : tie.Need-loop-again Inv-loop μ-loop
-loop-again c = (omega arith, job-added _ _ _ _ _ _ _ _ (c .before .before .before .before .before .before .good .1 .1 .0 .1 .0 .1) (c .before .before .before .before .before .before .pre) (c .before .before .before .before .loop-test .taken) (c .before .before .before .before .before .loop .inv .1) _ _ (c .add-job .ensures))
+loop-again c = (omega arith, job-added _ _ _ _ _ _ _ _ (c .before .before .before .before .before .before .before .before .good .1 .1 .0 .1 .0 .1) (c .before .before .before .before .before .before .before .before .pre) (c .before .before .before .before .loop-test .taken) (c .before .before .before .before .before .loop .inv .1) _ _ (c .add-job .ensures))
 
 best-requires : tie.Need-best-requires Inv-loop μ-loop
 best-requires c κs =
     let r = c .before .before .before .loop .inv .1 in
-    let l = taken-length (c .before .before .before .before .args .t3) (c .before .before .before .loop .k) (omega (arith, c .before .before .before .before .good .1 .1 .0 .1 .0 .1)) in (
+    let l = taken-length (c .before .before .before .before .before .before .args .t3) (c .before .before .before .loop .k) (omega (arith, c .before .before .before .before .before .before .good .1 .1 .0 .1 .0 .1)) in (
       r .totalColumns,
       r .maskColumns,
-      c .before .before .before .before .pre .deadline,
-      c .before .before .before .before .pre .based,
+      c .before .before .before .before .before .before .pre .deadline,
+      c .before .before .before .before .before .before .pre .based,
       (λ t h. omega (arith, r .each t (omega arith) .low)),
     )
 
 returns : tie.Need-returns Inv-loop μ-loop
 returns c =
-    let e : c .before .before .before .before .loop .k ≡ c .before .before .before .before .before .args .count = omega arith in
-    let l = taken-length (c .before .before .before .before .before .args .t3) (c .before .before .before .before .loop .k) (omega (arith, c .before .before .before .before .before .good .1 .1 .0 .1 .0 .1)) in
+    let e : c .before .before .before .before .loop .k ≡ c .before .before .before .before .before .before .before .args .count = omega arith in
+    let l = taken-length (c .before .before .before .before .before .before .before .args .t3) (c .before .before .before .before .loop .k) (omega (arith, c .before .before .before .before .before .before .before .good .1 .1 .0 .1 .0 .1)) in
     (c .best .ensures .0, rw e at (c .best .ensures .1 _ (c .before .before .before .before .loop .inv .1) (omega arith)))
 
 pub least-spec : {M : Type 1} → statement M
@@ -74,7 +79,8 @@ least-spec =
     (tie.spec
     Inv-loop
     μ-loop
-    array-write-totals
+    add-keep
+    keep-requires
     loop-holds
     mul-job
     array-copy-out-job
