@@ -10,7 +10,7 @@ import re
 import sys
 
 TOP = os.path.join(os.path.dirname(os.path.abspath(__file__)), '..')
-DOCUMENTS = ['README.md', 'tables/README.md'] + sorted(glob.glob('docs/**/*.md', root_dir=TOP, recursive=True))
+DOCUMENTS = ['README.md', 'tables/README.md', 'peer/README.md'] + sorted(glob.glob('docs/**/*.md', root_dir=TOP, recursive=True))
 troubles = []
 
 
@@ -20,7 +20,10 @@ def text(path):
 
 
 def public_functions():
+    """Those of the libraries; in a program `pub` only reaches its own files."""
     for path in sorted(glob.glob('crates/*/src/*.rt', root_dir=TOP)):
+        if os.path.exists(os.path.join(TOP, os.path.dirname(path), 'main.rt')):
+            continue
         yield from re.findall(r'^\s*pub (?:extern "C" )?fn (\w+)', text(path), re.M)
 
 

@@ -1,3 +1,4 @@
+-- `free::away_part` lists the flagged jobs in away order. The loop's invariant: the draft has those among the places passed. Assumes nothing.
 use borrow.Author.Needs.{needs}
 use Rattle.free.proofs.Parts.{Prepares, prepares, away-room, away-more, away-end}
 use Rattle.free.specs.Parts.{inAwayOrder}

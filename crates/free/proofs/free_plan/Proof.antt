@@ -1,3 +1,4 @@
+-- `free::free_plan` asks for the best choice, and lists its away jobs and then its here jobs; or there is none. Assumes nothing.
 use borrow.Author.Needs.{needs}
 use Rattle.free.proofs.Plans.{found-nothing, found-room, found-plan}
 use Rattle.free.specs.Parts.{inAwayOrder}

@@ -1,3 +1,4 @@
+-- `free::here_part` lists the jobs that are not flagged in table order. The loop's invariant: the draft has those among the jobs passed. Assumes nothing.
 use borrow.Author.Needs.{needs}
 use Rattle.free.proofs.Parts.{here-room, here-more, here-end}
 use Rattle.draft.proofs.Drafts.{Listing, listing-begin}

@@ -1,3 +1,4 @@
+-- `given::decided` meets its contract: sent, else kept, else neither. Assumes nothing.
 use borrow.Author.Needs.{needs}
 use mathlib.Core.Path.{sym, _∙_}
 use Rattle.given.proofs.Tests.{decided-sent, decided-kept, decided-neither}

@@ -1,3 +1,4 @@
+-- `given::is_sent` meets its contract: each test of Algorithm 1 in turn. Assumes nothing.
 use borrow.Author.Needs.{needs}
 use Rattle.given.proofs.Tests.{goes-yes, goes-late, goes-slow}
 use Rattle.given.proofs.is_sent.Statement.{statement}

@@ -1,3 +1,4 @@
+-- `model::span_of` meets its contract, by the choice and the sending. Assumes nothing.
 use borrow.Author.Needs.{needs}
 use Rattle.model.proofs.span_of.Statement.{statement}
 use Rattle.model.proofs.span_of.Tie as tie

@@ -1,3 +1,4 @@
+-- `model::wait_of` meets its contract, by the choice and the sending. Assumes nothing.
 use borrow.Author.Needs.{needs}
 use Rattle.model.proofs.wait_of.Statement.{statement}
 use Rattle.model.proofs.wait_of.Tie as tie

@@ -1,3 +1,4 @@
+-- `panel::planned_numbers` meets its contract, case by case. Assumes nothing.
 use borrow.Author.Needs.{needs}
 use mathlib.Core.Path.{refl}
 use Rattle.panel.proofs.planned_numbers.Statement.{statement}

@@ -1,3 +1,4 @@
+-- `panel::zb_check_plan` meets its contract: the check's answer, case by case. Assumes nothing.
 use borrow.Author.Needs.{needs}
 use mathlib.Core.Path.{refl}
 use Rattle.panel.proofs.zb_check_plan.Statement.{statement}

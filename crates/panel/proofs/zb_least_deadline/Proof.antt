@@ -1,3 +1,4 @@
+-- `panel::zb_least_deadline` meets its contract: the planner's answer, case by case. Assumes nothing.
 use borrow.Author.Needs.{needs}
 use mathlib.Core.Path.{refl}
 use Rattle.panel.proofs.zb_least_deadline.Statement.{statement}

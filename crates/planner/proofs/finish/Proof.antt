@@ -1,3 +1,4 @@
+-- `planner::finish` meets its contract: nothing found leaves the area, a draft is written. Assumes nothing.
 use borrow.Author.Needs.{needs}
 use Rattle.planner.proofs.Finishing.{finish-none, finish-some}
 use borrow.Author.Tests.{not-true, not-false}

@@ -1,3 +1,4 @@
+-- `planner::least_deadline` meets its contract: the table's refusal, the least deadline, or NONE. Assumes nothing.
 use borrow.Author.Needs.{needs}
 use Rattle.table.proofs.Reading.{read-refused, read-whole}
 use Rattle.table.specs.Tables.{jobTable}

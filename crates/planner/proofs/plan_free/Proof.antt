@@ -1,3 +1,4 @@
+-- `planner::plan_free` meets its contract: ROOM, then the table's refusal, then what the free order finds. Assumes nothing.
 use borrow.Author.Needs.{needs}
 use Rattle.planner.proofs.Orders.{free-few, free-answered}
 use Rattle.table.proofs.Reading.{read-refused, read-whole}

@@ -1,3 +1,4 @@
+-- `planner::plan_given` meets its contract: ROOM, then the table's refusal, then what the given order finds. Assumes nothing.
 use borrow.Author.Needs.{needs}
 use Rattle.planner.proofs.Orders.{given-few, given-answered}
 use Rattle.table.proofs.Reading.{read-refused, read-whole}

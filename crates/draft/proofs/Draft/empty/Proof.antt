@@ -1,3 +1,4 @@
+-- `draft::Draft::empty` meets its contract: no steps, and nothing laid. Assumes nothing.
 use borrow.Author.Needs.{needs}
 use Rattle.draft.proofs.Draft.empty.Statement.{statement}
 use Rattle.draft.proofs.Draft.empty.Tie as tie

@@ -1,3 +1,4 @@
+-- `draft::Draft::with_if` meets its contract, with the job listed and without. Assumes nothing.
 use borrow.Author.Needs.{needs}
 use Rattle.draft.proofs.Draft.with_if.Statement.{statement}
 use Rattle.draft.proofs.Draft.with_if.Tie as tie

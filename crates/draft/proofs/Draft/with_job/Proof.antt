@@ -1,3 +1,4 @@
+-- `draft::Draft::with_job` meets its contract: the step by the plan's function, the numbers by the model's. Assumes nothing.
 use borrow.Author.Needs.{needs}
 use Rattle.draft.proofs.Draft.with_job.Statement.{statement}
 use Rattle.draft.proofs.Draft.with_job.Tie as tie

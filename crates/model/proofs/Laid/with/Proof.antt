@@ -1,3 +1,4 @@
+-- `model::Laid::with` meets its contract: the later of the last finish and the new job's. Assumes nothing.
 use borrow.Author.Needs.{needs}
 use native.Mathlib.Omega.{arith}
 use Rattle.model.specs.Laying.{chosen}
