@@ -19,7 +19,9 @@
 //! assert_eq!(proved::check_plan(&table, plan)?.last, 45);
 //!
 //! table[1] = 44;
-//! assert_eq!(proved::plan_free(&table, &mut area), Err(Refusal::NoTimetable));
+//! let refused = proved::plan_free(&table, &mut area).unwrap_err();
+//! assert_eq!(refused, Refusal::NoTimetable);
+//! assert_eq!(refused.to_string(), "refused 7, NONE");
 //! assert_eq!(proved::least_deadline(&table)?, 45);
 //! # Ok::<(), Refusal>(())
 //! ```
@@ -101,6 +103,25 @@ impl Refusal {
         }
     }
 
+    /// The refusal's name in document 01.
+    pub fn name(self) -> &'static str {
+        match self {
+            Refusal::Short(_) => "SHORT",
+            Refusal::Kind(_) => "KIND",
+            Refusal::Range(_) => "RANGE",
+            Refusal::Many(_) => "MANY",
+            Refusal::Twice(_) => "TWICE",
+            Refusal::After(_) => "AFTER",
+            Refusal::NoTimetable => "NONE",
+            Refusal::Stranger => "STRANGER",
+            Refusal::Kept => "KEPT",
+            Refusal::Left => "LEFT",
+            Refusal::Late => "LATE",
+            Refusal::Room => "ROOM",
+            Refusal::Unknown => "unknown",
+        }
+    }
+
     /// The refused record's place in its file, where the refusal is about one.
     pub fn place(self) -> Option<u64> {
         match self {
@@ -136,10 +157,10 @@ impl Refusal {
 impl fmt::Display for Refusal {
     fn fmt(&self, out: &mut fmt::Formatter<'_>) -> fmt::Result {
         write!(out, "refused {}", self.number())?;
-        match self.place() {
-            Some(place) => write!(out, " at {place}"),
-            None => Ok(()),
+        if let Some(place) = self.place() {
+            write!(out, " at {place}")?;
         }
+        write!(out, ", {}", self.name())
     }
 }
 
