@@ -1,7 +1,7 @@
 -- Laws of the tables: what the records of a table tell once they are read (`frame-all`, `RowIs`), and the table as `jobs_from` holds it:
 -- one more job, and the end. What follows of a list of records is in proofs/Listed.antt. Assumes nothing.
 use Prim.Native.Nat.{ℕ, _+_, _≤_, _<_}
-use mathlib.Core.Path.{_≡_, refl, subst}
+use mathlib.Core.Path.{_≡_, refl, sym, ap, subst, _∙_}
 use mathlib.Core.Bool.{Bool, true, false, cond, _&&_}
 use mathlib.Core.List.{List, [], _∷_, _++_}
 use lib.ListN.{length, getD, set, length-append}
@@ -10,6 +10,7 @@ use native.Mathlib.Omega.{arith}
 use borrow.Author.Tests.{ltb-true, leb-true}
 use Rattle.model.specs.declared.Job.{Job}
 use Rattle.model.specs.Positions.{noJob}
+use Rattle.model.proofs.Lists.{clash}
 use Rattle.table.specs.declared.refusal.Refusal.{Refusal}
 use Rattle.table.specs.declared.refusal.Refusal.the-variants.{After}
 use Rattle.table.specs.declared.kind.RowKind.{RowKind}
@@ -19,10 +20,12 @@ use Rattle.table.specs.declared.FrameRead.{FrameRead}
 use Rattle.table.specs.declared.FrameRead.the-variants.{Deadline, FrameRefused}
 use Rattle.table.specs.declared.JobRead.{JobRead}
 use Rattle.table.specs.declared.JobRead.the-variants.{JobRefused}
+use Rattle.table.specs.declared.TableVerdict.{TableVerdict}
+use Rattle.table.specs.declared.TableVerdict.the-variants.{Whole, Refused}
 use Rattle.table.specs.Limits.{mostJobs, largestTime}
-use Rattle.table.specs.Refusals.{place, accepted, refused}
+use Rattle.table.specs.Refusals.{place, Outcome, accepted, refused}
 use Rattle.table.specs.Records.{wordAt, frameOnly, rowOnly, Entry, one, last, bad}
-use Rattle.table.specs.Tables.{timeOk, deadlineAt, frameAt, hereAt, eitherAt, rowBody, jobAt, jobEntry, withDeadline, tableOf, tableRead, endedWith}
+use Rattle.table.specs.Tables.{timeOk, deadlineAt, frameAt, hereAt, eitherAt, rowBody, jobAt, jobEntry, withDeadline, tableOf, tableRead, emptyTable, endVerdict, isWhole}
 use Rattle.table.proofs.Records.{rowByte, rowLength, cond-all, frame-kind, row-kind, is-frame, is-row, judged-all}
 use Rattle.table.proofs.Listed.{padded-more}
 
@@ -101,16 +104,39 @@ pub table-more :
     record { deadline = t .deadline; count = t .count + 1; jobs = set (t .jobs) (t .count) j } ≡ tableOf D (js ++ (j ∷ []))
 table-more t D js j held room = rw (held, padded-more js j noJob mostJobs room, length-append js (j ∷ []))
 
--- the end, told of the array and of the list
-pub ended-with :
-    (s : List ℕ) (D : ℕ) (js : List Job) (at : ℕ) →
-    endedWith s (tableOf D js) at ≡ tableRead (withDeadline D (cond (leb (length s) at) (accepted js) (refused (After (place at)))))
-unfolding endedWith
-ended-with s D js at = go (leb (length s) at)
+-- How the reader's loop ends: js is what it has read, and o what the records come to.
+
+abbrev verdictOf : Outcome (List Job) → TableVerdict
+verdictOf (accepted js) = Whole
+verdictOf (refused f) = Refused f
+
+pub record Judged (o : Outcome (List Job)) (js : List Job) (v : TableVerdict) : Type 0 where
+  pub told : v ≡ verdictOf o
+  pub read : isWhole v ≡ true → o ≡ accepted js
+
+pub judged-refused : {o : Outcome (List Job)} {js : List Job} {v : TableVerdict} (f : Refusal) → v ≡ Refused f → refused f ≡ o → Judged o js v
+judged-refused f e r = record { told = e ∙ ap verdictOf r; read = λ w. clash (cc (ap isWhole e)) }
+
+pub judged-ended :
+    {o : Outcome (List Job)} {js : List Job} {v : TableVerdict} (s : List ℕ) (at : ℕ) → v ≡ endVerdict s at →
+    cond (leb (length s) at) (accepted js) (refused (After (place at))) ≡ o → Judged o js v
+unfolding endVerdict
+judged-ended {o} {js} {v} s at = step (leb (length s) at)
   where
-    go :
-        (whole : Bool) →
-        cond whole (tableRead (withDeadline D (accepted js))) (tableRead (refused (After (place at)))) ≡
-        tableRead (withDeadline D (cond whole (accepted js) (refused (After (place at)))))
-    go true = refl
-    go false = refl
+    step : (b : Bool) → v ≡ cond b Whole (Refused (After (place at))) → cond b (accepted js) (refused (After (place at))) ≡ o → Judged o js v
+    step true e r = record { told = e ∙ ap verdictOf r; read = λ w. sym r }
+    step false e r = judged-refused (After (place at)) e r
+
+-- what is answered then: the table that was read, or the empty one
+pub answered-whole : (D : ℕ) (o : Outcome (List Job)) (js : List Job) (v : TableVerdict) (t : Table) → Judged o js v → isWhole v ≡ true → t ≡ tableOf D js
+    → record { verdict = v; table = t } ≡ tableRead (withDeadline D o)
+answered-whole D o js v t j w held = rw (j .read w, held) (whole v w)
+  where
+    whole : (v : TableVerdict) → isWhole v ≡ true → record { verdict = v; table = tableOf D js } ≡ tableRead (withDeadline D (accepted js))
+    whole Whole w = refl
+    whole (Refused f) w = clash (cc)
+
+pub answered-refused : (D : ℕ) (o : Outcome (List Job)) (js : List Job) (v : TableVerdict) → Judged o js v → isWhole v ≡ false
+    → record { verdict = v; table = emptyTable } ≡ tableRead (withDeadline D o)
+answered-refused D (accepted ks) js v j w = clash (cc (j .told))
+answered-refused D (refused f) js v j w = rw (j .told)

@@ -2,7 +2,7 @@
 -- `readTable` says what a byte string means as a table, or which refusal it gets. Assumes nothing.
 use Prim.Native.Nat.{ℕ, suc, _+_, _-_, _%_, _/_, _≤_}
 use mathlib.Core.Path.{_≡_}
-use mathlib.Core.Bool.{Bool, cond, _&&_}
+use mathlib.Core.Bool.{Bool, true, false, cond, _&&_}
 use mathlib.Core.List.{List, [], _∷_, _++_}
 use lib.ListN.{length, getD, take, replicate}
 use lib.Dec.{ltb, leb}
@@ -20,6 +20,7 @@ use Rattle.table.specs.declared.FrameRead.{FrameRead}
 use Rattle.table.specs.declared.FrameRead.the-variants.{Deadline, FrameRefused}
 use Rattle.table.specs.declared.JobRead.{JobRead}
 use Rattle.table.specs.declared.JobRead.the-variants.{JobIs, JobsEnd, JobRefused}
+use Rattle.table.specs.declared.TableVerdict.{TableVerdict}
 use Rattle.table.specs.declared.TableVerdict.the-variants.{Whole, Refused}
 use Rattle.table.specs.declared.TableRead.{TableRead}
 use Rattle.table.specs.Limits.{mostJobs, largestTime}
@@ -128,9 +129,13 @@ abbrev pub tableRead : Outcome JobTable → TableRead
 tableRead (accepted t) = record { verdict = Whole; table = tableOf (t .deadline) (t .jobs) }
 tableRead (refused f) = record { verdict = Refused f; table = emptyTable }
 
--- what `ended_at` answers: "After the end record, AFTER", told of the table as the code holds it, whichever it is given
-unfoldable pub endedWith : List ℕ → Table → ℕ → TableRead
-endedWith s t at = cond (leb (length s) at) (record { verdict = Whole; table = t }) (tableRead (refused (After (place at))))
+-- what `ended_at` answers: "After the end record, AFTER"
+unfoldable pub endVerdict : List ℕ → ℕ → TableVerdict
+endVerdict s at = cond (leb (length s) at) Whole (Refused (After (place at)))
+
+abbrev pub isWhole : TableVerdict → Bool
+isWhole Whole = true
+isWhole (Refused f) = false
 
 -- The bytes of a table: the one byte string that reads as it.
 

@@ -14,7 +14,7 @@ ghost use lib.ListN.{length};
 ghost use Rattle.table.specs.Limits.{mostJobs, largestTime, longestTable, longestPlan};
 ghost use Rattle.table.specs.Refusals.{refused};
 ghost use Rattle.table.specs.Records.{wordAt};
-ghost use Rattle.table.specs.Tables.{frameAt, hereJob, eitherJob, jobAt, jobsRead, withDeadline, readTable, emptyTable, tableRead, endedWith};
+ghost use Rattle.table.specs.Tables.{frameAt, hereJob, eitherJob, jobAt, jobsRead, withDeadline, readTable, emptyTable, tableRead, endVerdict, isWhole};
 
 pub struct Table {
     pub deadline: u16,
@@ -224,20 +224,26 @@ fn table_refused(f: Refusal) -> TableRead
 }
 
 // Nothing may stand after the end record.
-fn ended_at(s: &[u8], table: Table, at: usize) -> TableRead
-    ensures { λ r. ⌜ r ≡ endedWith (now (s .entry)) table at ⌝ }
+fn ended_at(s: &[u8], at: usize) -> TableVerdict
+    ensures { λ r. ⌜ r ≡ endVerdict (now (s .entry)) at ⌝ }
 {
     if s.len() <= at {
-        TableRead {
-            verdict: TableVerdict::Whole,
-            table,
-        }
+        TableVerdict::Whole
     } else {
-        table_refused(Refusal::After(Place { at }))
+        TableVerdict::Refused(Refusal::After(Place { at }))
     }
 }
 
-// The records after the first; `seen` tells the ids that stand before.
+fn is_whole(verdict: TableVerdict) -> bool
+    ensures { λ r. ⌜ r ≡ isWhole verdict ⌝ }
+{
+    match verdict {
+        TableVerdict::Whole => true,
+        TableVerdict::Refused(_) => false,
+    }
+}
+
+// The records after the first; `seen` tells the ids that stand before. There is one way out, so that the table is made where it is answered.
 fn jobs_from(s: &[u8], deadline: u16) -> TableRead
     ensures { λ r. ⌜ r ≡ tableRead (withDeadline deadline (jobsRead (now (s .entry)))) ⌝ }
 {
@@ -245,12 +251,12 @@ fn jobs_from(s: &[u8], deadline: u16) -> TableRead
     t.deadline = deadline;
     let mut seen = [false; 256];
     let mut at = 3;
-    loop {
+    let verdict = loop {
         match job_at(s, at, t.count) {
             JobRead::JobIs(j, p) => {
                 let id = j.id as usize;
                 if seen[id] {
-                    return table_refused(Refusal::Twice(Place { at }));
+                    break TableVerdict::Refused(Refusal::Twice(Place { at }));
                 }
                 seen[id] = true;
                 let n = t.count;
@@ -258,10 +264,14 @@ fn jobs_from(s: &[u8], deadline: u16) -> TableRead
                 t.count = n + 1;
                 at = p.at;
             }
-            JobRead::JobsEnd(p) => return ended_at(s, t, p.at),
-            JobRead::JobRefused(f) => return table_refused(f),
+            JobRead::JobsEnd(p) => break ended_at(s, p.at),
+            JobRead::JobRefused(f) => break TableVerdict::Refused(f),
         }
+    };
+    if !is_whole(verdict) {
+        t = Table::empty();
     }
+    TableRead { verdict, table: t }
 }
 
 pub fn read_table(s: &[u8]) -> TableRead

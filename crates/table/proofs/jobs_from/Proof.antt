@@ -4,19 +4,19 @@ use Prim.Native.Nat.{ℕ, suc, _-_, _<_}
 use native.Mathlib.Omega.{arith}
 use mathlib.Core.Path.{_≡_, sym, ap, _∙_}
 use mathlib.Core.Bool.{Bool}
+use mathlib.Core.Logic.{inl, inr}
 use mathlib.Core.List.{List, [], _∷_, _++_}
 use denote.Ref.{now}
 use lib.ListN.{length}
 use borrow.Author.Needs.{needs}
+use borrow.Author.Tests.{not-true, not-false}
 use Rattle.model.specs.declared.Job.{Job}
 use Rattle.table.specs.declared.Table.{Table}
-use Rattle.table.specs.declared.TableRead.{TableRead}
 use Rattle.table.specs.Limits.{mostJobs}
-use Rattle.table.specs.Refusals.{Outcome}
 use Rattle.table.specs.Records.{one}
-use Rattle.table.specs.Tables.{jobId, jobEntry, jobsRead, withDeadline, tableOf, tableRead}
+use Rattle.table.specs.Tables.{jobId, jobEntry, jobsRead, tableOf}
 use Rattle.table.proofs.Listed.{SoFar, so-far-begin, so-far-refused, so-far-ended, so-far-twice, so-far-more}
-use Rattle.table.proofs.Tables.{rowEntry, row-is, row-few, table-more, ended-with}
+use Rattle.table.proofs.Tables.{rowEntry, row-is, row-few, table-more, Judged, judged-refused, judged-ended, answered-whole, answered-refused}
 use Rattle.table.proofs.jobs_from.Statement.{statement}
 use Rattle.table.proofs.jobs_from.Tie as tie
 
@@ -25,10 +25,6 @@ record Kept (s : List ℕ) (D : ℕ) (t : Table) (seen : List Bool) (at : ℕ) :
   js : List Job
   held : t ≡ tableOf D js
   so : SoFar jobId (rowEntry s) (length s) 3 js (t .count) seen at
-
--- what it answers, told of the jobs
-abbrev answer : ℕ → Outcome (List Job) → TableRead
-answer D o = tableRead (withDeadline D o)
 
 abbrev Inv-loop : tie.InvT-loop
 Inv-loop s deadline t₀ seen₀ at₀ t seen at = Kept s deadline t seen at
@@ -56,9 +52,6 @@ cast-id c = search needs
 array-read-if1 : tie.Need-array-read-if1 Inv-loop μ-loop
 array-read-if1 c = search needs
 
-table-refused-requires : tie.Need-table-refused-requires Inv-loop μ-loop
-table-refused-requires c κs = search needs
-
 -- a job was read at the place
 listed :
     (c : tie.After-struct-known Inv-loop μ-loop) →
@@ -66,12 +59,6 @@ listed :
     let read = c .before .before .j .given .0 in
     rowEntry (now (c .before .before .before .before .before .before .before .before .args .s)) (l .at) (l .t .count) ≡ one (read .0) (read .1 .0 .at)
 listed c = ap jobEntry (sym (c .before .before .before .before .job-at .ensures) ∙ c .before .before .j .given .1)
-
-returns : tie.Need-returns Inv-loop μ-loop
-unfolding jobsRead
-returns c =
-    let inv = c .before .before .before .before .before .before .before .loop .inv in
-    c .table-refused .ensures ∙ ap (answer _) (so-far-twice _ _ _ (inv .so) (listed (c .before .before)) (omega arith) (c .before .if1 .taken))
 
 array-write-seen : tie.Need-array-write-seen Inv-loop μ-loop
 array-write-seen c = search needs
@@ -109,26 +96,37 @@ enum-known-p c = search needs
 ended-at-requires : tie.Need-ended-at-requires Inv-loop μ-loop
 ended-at-requires c κs = search needs
 
-returns-2 : tie.Need-returns-2 Inv-loop μ-loop
-unfolding jobsRead
-returns-2 c =
-    let inv = c .before .before .before .before .before .loop .inv in
-    let end = c .before .before .p .given in
-    let read = ap jobEntry (sym (c .before .before .before .before .job-at .ensures) ∙ end .1) in
-    c .ended-at .ensures ∙ rw (inv .held) (ended-with _ _ (inv .js) (end .0 .0 .at) ∙ ap (answer _) (so-far-ended _ _ _ (inv .so) read))
-
 enum-known-f : tie.Need-enum-known-f Inv-loop μ-loop
 enum-known-f c = search needs
 
-table-refused-requires-2 : tie.Need-table-refused-requires-2 Inv-loop μ-loop
-table-refused-requires-2 c κs = search needs
-
-returns-3 : tie.Need-returns-3 Inv-loop μ-loop
+-- the loop ends at a record that is refused, at an id that was seen, or at the end record
+judged : (c : tie.At-match-came Inv-loop μ-loop) →
+    let l = c .before .before .loop in
+    Judged (jobsRead (now (c .before .before .before .before .before .args .s))) (l .inv .js) (c .match .verdict)
 unfolding jobsRead
-returns-3 c =
-    let inv = c .before .before .before .before .before .loop .inv in
-    let read = ap jobEntry (sym (c .before .before .before .before .job-at .ensures) ∙ c .before .before .f .given .1) in
-    c .table-refused2 .ensures ∙ ap (answer _) (so-far-refused _ _ _ (inv .so) read)
+judged c =
+    let inv = c .before .before .loop .inv in
+    elim (c .match .came) [
+      | inl (match, j, known, struct, if1, e) ↦ judged-refused _ e (so-far-twice _ _ _ (inv .so) (ap jobEntry (sym (c .before .job-at .ensures) ∙ j .given .1)) (omega arith) (if1 .taken))
+      | inr (inl (match, p, known, ended, e)) ↦ judged-ended _ _ (e ∙ ended .ensures) (so-far-ended _ _ _ (inv .so) (ap jobEntry (sym (c .before .job-at .ensures) ∙ p .given .1)))
+      | inr (inr (match, f, known, e)) ↦ judged-refused _ e (so-far-refused _ _ _ (inv .so) (ap jobEntry (sym (c .before .job-at .ensures) ∙ f .given .1)))
+    ]
+
+is-whole-requires : tie.Need-is-whole-requires Inv-loop μ-loop
+is-whole-requires c κs = search needs
+
+empty-requires-2 : tie.Need-empty-requires-2 Inv-loop μ-loop
+empty-requires-2 c κs = search needs
+
+returns : tie.Need-returns Inv-loop μ-loop
+returns c =
+    let refused = sym (c .before .before .is-whole .ensures) ∙ not-true _ (c .before .if2 .taken) in
+    rw (c .empty2 .ensures) (answered-refused _ _ _ _ (judged (c .before .before .before)) refused)
+
+returns-2 : tie.Need-returns-2 Inv-loop μ-loop
+returns-2 c =
+    let whole = sym (c .before .is-whole .ensures) ∙ not-false _ (c .if2 .left) in
+    answered-whole _ _ _ _ _ (judged (c .before .before)) whole (c .before .before .before .before .loop .inv .held)
 
 pub jobs-from-spec : {M : Type 1} → statement M
 jobs-from-spec =
@@ -142,8 +140,6 @@ jobs-from-spec =
     enum-known-j
     cast-id
     array-read-if1
-    table-refused-requires
-    returns
     array-write-seen
     mul-j
     element-set-from-j
@@ -152,7 +148,8 @@ jobs-from-spec =
     loop-again
     enum-known-p
     ended-at-requires
-    returns-2
     enum-known-f
-    table-refused-requires-2
-    returns-3)
+    is-whole-requires
+    empty-requires-2
+    returns
+    returns-2)
