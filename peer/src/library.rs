@@ -52,19 +52,22 @@ impl Library {
         }
     }
 
-    /// The proved library, if this build holds it.
+    /// The proved library, or a sentence that says what is missing.
     #[cfg(not(proved))]
-    pub fn proved() -> Option<Library> {
-        None
+    pub fn proved() -> Result<Library, &'static str> {
+        Err(
+            "the proved library is not linked: make libpanel.a with `rt staticlib panel` \
+             and build again",
+        )
     }
 
-    /// The proved library, if this build holds it.
+    /// The proved library.
     #[cfg(proved)]
-    pub fn proved() -> Option<Library> {
+    pub fn proved() -> Result<Library, &'static str> {
         fn planned(planned: proved::Planned) -> [u64; 3] {
             [planned.length as u64, planned.busy, planned.last]
         }
-        Some(Library {
+        Ok(Library {
             plan_free: |table, area| answer(proved::plan_free(table, area), planned),
             plan_given: |table, area| answer(proved::plan_given(table, area), planned),
             least_deadline: |table| answer(proved::least_deadline(table), |least| [least, 0, 0]),

@@ -7,6 +7,7 @@ use table::refusal::Refusal;
 ghost use mathlib.Core.Path.{_≡_};
 ghost use Prim.Native.Nat.{_<_, _≤_};
 ghost use lib.ListN.{length, take};
+ghost use Rattle.table.specs.Limits.{mostJobs};
 ghost use Rattle.table.specs.Tables.{Sound, jobTable};
 ghost use Rattle.plan.specs.Plans.{stepId, noStep, readPlan};
 ghost use Rattle.judge.specs.Check.{afterPlan};
@@ -121,7 +122,7 @@ fn judged(value: f32, number: u32, time: u16, deadline: u16) -> Standing
 
 // The table position of the job with an id.
 fn find_in(entries: [Entry; Table::MOST_JOBS], count: usize, id: u8) -> Found
-    requires { ⌜ count ≤ 32 ⌝ }
+    requires { ⌜ count ≤ mostJobs ⌝ }
     ensures { λ r. ⌜ r ≡ first entryId none entries id 0 count ⌝ }
 {
     let mut i = 0;
@@ -223,7 +224,7 @@ fn away_in(plan: &[u8], count: usize, id: u8) -> bool
 
 // The entries of a table's jobs, none of which has a value.
 fn entries_of(t: Table, plan: &[u8]) -> [Entry; Table::MOST_JOBS]
-    requires { ⌜ (t .count ≤ 32) × (t .count ≤ length (stepsIn (readPlan (now plan)))) ⌝ }
+    requires { ⌜ (t .count ≤ mostJobs) × (t .count ≤ length (stepsIn (readPlan (now plan)))) ⌝ }
     ensures { λ r. ⌜ r ≡ entriesOf (take (t .count) (t .jobs)) (stepsIn (readPlan (now (plan .entry)))) (t .count) ⌝ }
 {
     let count = t.count;
@@ -262,7 +263,7 @@ fn order_of(
     count: usize,
     plan: &[u8],
 ) -> [usize; Table::MOST_JOBS]
-    requires { ⌜ (count ≤ 32) × (count ≤ length (stepsIn (readPlan (now plan)))) ⌝ }
+    requires { ⌜ (count ≤ mostJobs) × (count ≤ length (stepsIn (readPlan (now plan)))) ⌝ }
     ensures { λ r. ⌜ r ≡ orderOf entries (stepsIn (readPlan (now (plan .entry)))) count ⌝ }
 {
     let mut order = [0; Table::MOST_JOBS];
@@ -278,7 +279,7 @@ fn order_of(
 
 // The record of a frame that opens, once its plan has passed the check.
 fn opened_with(t: Table, plan: &[u8], number: u32) -> Frame
-    requires { ⌜ (t .count ≤ 32) × (t .count ≤ length (stepsIn (readPlan (now plan)))) ⌝ }
+    requires { ⌜ (t .count ≤ mostJobs) × (t .count ≤ length (stepsIn (readPlan (now plan)))) ⌝ }
     ensures { λ r. ⌜ r ≡ begun number (jobTable t) (stepsIn (readPlan (now (plan .entry)))) ⌝ }
 {
     let entries = entries_of(t, plan);
@@ -332,7 +333,7 @@ impl Frame {
     // Each job of the plan has a place of its own in the table, each job of the table an id of its own, and each stands where it may.
     // One pass: the flags tell the places and the ids that have come.
     fn places_ok(self) -> bool
-        requires { ⌜ self .count ≤ 32 ⌝ }
+        requires { ⌜ self .count ≤ mostJobs ⌝ }
         ensures { λ r. ⌜ r ≡ okFrom self 0 (self .count) ⌝ }
     {
         let count = self.count;
@@ -486,7 +487,7 @@ impl Frame {
 
     // The record with the job at a place of the table standing at s from now on.
     fn with(mut self, at: usize, time: u16, next: usize, s: Standing) -> Frame
-        requires { ⌜ at < 32 ⌝ }
+        requires { ⌜ at < mostJobs ⌝ }
         ensures { λ r. ⌜ r ≡ moved self at time next s ⌝ }
     {
         let old = self.entries[at];
@@ -518,7 +519,7 @@ impl Frame {
 
     // The span of the job at a place ends: the job is out, or has its value.
     fn span_at(self, at: usize, time: u16, value: f32, away: bool) -> Step
-        requires { ⌜ (self .next < 32) × (at < 32) × (at ≡ placeAt (self .order) (self .next)) ⌝ }
+        requires { ⌜ (self .next < mostJobs) × (at < mostJobs) × (at ≡ placeAt (self .order) (self .next)) ⌝ }
         ensures { λ r. ⌜ r ≡ spanAt self time value away ⌝ }
     {
         let next = self.next + 1;
@@ -562,7 +563,7 @@ impl Frame {
 
     // A value comes back for the job at a place, which stands at s.
     fn back_at(self, at: usize, time: u16, value: f32, s: Standing) -> Step
-        requires { ⌜ at < 32 ⌝ }
+        requires { ⌜ at < mostJobs ⌝ }
         ensures { λ r. ⌜ r ≡ backAt self at time value s ⌝ }
     {
         match s {

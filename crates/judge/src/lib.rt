@@ -12,6 +12,7 @@ ghost use mathlib.Core.Bool.{not, _&&_};
 ghost use Prim.Native.Nat.{_≤_};
 ghost use lib.ListN.{take};
 ghost use Rattle.model.specs.Timetable.{isEither};
+ghost use Rattle.table.specs.Limits.{mostJobs};
 ghost use Rattle.table.specs.Tables.{Sound, jobTable};
 ghost use Rattle.plan.specs.declared.PlanRead.the-variants.{PlanIs};
 ghost use Rattle.plan.specs.Plans.{readPlan, planRead};
@@ -30,7 +31,7 @@ enum Found {
 
 // Where the job with this id stands among the first `count`.
 fn place_of(jobs: [Job; Table::MOST_JOBS], count: usize, id: u8) -> Found
-    requires { ⌜ count ≤ 32 ⌝ }
+    requires { ⌜ count ≤ mostJobs ⌝ }
     ensures { λ r. ⌜ r ≡ placeOf (take count jobs) id ⌝ }
 {
     let mut i = 0;

@@ -14,6 +14,7 @@ ghost use mathlib.Core.List.{_++_};
 ghost use Prim.Native.Nat.{_+_, _≤_};
 ghost use lib.ListN.{length};
 ghost use Rattle.model.specs.FreeOrder.{laid};
+ghost use Rattle.table.specs.Limits.{mostJobs};
 ghost use Rattle.table.specs.Refusals.{refusalSays};
 ghost use Rattle.table.specs.Tables.{jobTable};
 ghost use Rattle.plan.specs.Plans.{stepsOf};
@@ -73,7 +74,7 @@ fn put_job_line(out: &mut [u8], at: usize, job: Job, away: bool, start: usize) -
 
 // The job of the table with this id; ids are distinct, and every step of a plan has one.
 fn job_with(t: Table, id: u8) -> Job
-    requires { ⌜ t .count ≤ 32 ⌝ }
+    requires { ⌜ t .count ≤ mostJobs ⌝ }
     ensures { λ r. ⌜ r ≡ jobWith (jobTable t .jobs) id ⌝ }
 {
     let n = t.count;
@@ -94,7 +95,7 @@ fn job_with(t: Table, id: u8) -> Job
 
 // A line for each step of the plan, back to back from tick 0.
 fn put_lines(out: &mut [u8], from: usize, plan: Plan, t: Table) -> usize
-    requires { ⌜ (plan .count ≤ 32) × (t .count ≤ 32) × (from + length (jobLines (laid 0 (chosenFor (jobTable t .jobs) (stepsOf plan)))) ≤ length (now out)) ⌝ }
+    requires { ⌜ (plan .count ≤ mostJobs) × (t .count ≤ mostJobs) × (from + length (jobLines (laid 0 (chosenFor (jobTable t .jobs) (stepsOf plan)))) ≤ length (now out)) ⌝ }
     ensures { λ r. ⌜ Wrote (now (out .entry)) from (jobLines (laid 0 (chosenFor (jobTable t .jobs) (stepsOf plan)))) (now (out .exit)) r ⌝ }
 {
     let n = plan.count;
@@ -114,7 +115,7 @@ fn put_lines(out: &mut [u8], from: usize, plan: Plan, t: Table) -> usize
 
 // The first line, a line for each step, the last line.
 fn put_plan(out: &mut [u8], t: Table, draft: Draft) -> usize
-    requires { ⌜ (draft .plan .count ≤ 32) × (t .count ≤ 32) × (length (draftText t draft) ≤ length (now out)) ⌝ }
+    requires { ⌜ (draft .plan .count ≤ mostJobs) × (t .count ≤ mostJobs) × (length (draftText t draft) ≤ length (now out)) ⌝ }
     ensures { λ r. ⌜ Wrote (now (out .entry)) 0 (draftText t draft) (now (out .exit)) r ⌝ }
 {
     let plan = draft.plan;
@@ -146,7 +147,7 @@ fn put_refused(out: &mut [u8], f: Refusal) -> usize
 
 // The plan that was found, or NONE.
 fn put_made(out: &mut [u8], t: Table, made: Drafted) -> usize
-    requires { ⌜ (made .draft .plan .count ≤ 32) × (t .count ≤ 32) × (length (madeText t made) ≤ length (now out)) ⌝ }
+    requires { ⌜ (made .draft .plan .count ≤ mostJobs) × (t .count ≤ mostJobs) × (length (madeText t made) ≤ length (now out)) ⌝ }
     ensures { λ r. ⌜ Wrote (now (out .entry)) 0 (madeText t made) (now (out .exit)) r ⌝ }
 {
     let draft = made.draft;

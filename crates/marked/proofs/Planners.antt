@@ -20,7 +20,7 @@ use Rattle.planner.specs.declared.Least.{Least}
 use Rattle.planner.specs.Answers as A
 use Rattle.planner.specs.Answers.{PlanAnswer, BestPlan, FreeAnswer, GivenAnswer, LeastAnswer}
 use Rattle.marked.specs.Marked.{E, planE, marked, AllHold}
-use Rattle.marked.specs.Versions.{Planner, Plans, NoneToAll, OneFixedPlan, NothingWritten, LastIsBusy, TrueFigures, NeverMet, OneDeadline}
+use Rattle.marked.specs.Versions.{Planner, Plans, NoneToAll, OneFixedPlan, NothingWritten, LastIsBusy, NotEmpty, TrueFigures, NeverMet, OneDeadline}
 use Rattle.marked.proofs.Examples.{tableE, readE, table6, plan6, table7, tableNo, readNo, given-E, given-6, given-7}
 use Rattle.marked.proofs.Marked.{marked-hold}
 
@@ -33,31 +33,39 @@ unfolding blank
 blank-room = omega arith
 
 -- what a planner of either order answers for three tables: E, that of case 6, that of case 7
-pub record Shown (p : Planner) : Type 0 where
-  pub first : Plans p E blank 7 40 45 × (p .area E blank ≡ planE ++ drop 7 blank)
-  pub sixth : Plans p table6 blank 5 20 20 × (p .area table6 blank ≡ plan6 ++ drop 5 blank)
-  pub seventh : Plans p table7 blank 5 14 16
+record Shown (p : Planner) : Type 0 where
+  first : Plans p E blank 7 40 45 × (p .area E blank ≡ planE ++ drop 7 blank)
+  sixth : Plans p table6 blank 5 20 20 × (p .area table6 blank ≡ plan6 ++ drop 5 blank)
+  seventh : Plans p table7 blank 5 14 16
 
 module _ (p : Planner) (shown : Shown p) where
-  pub not-none-to-all : ¬ (NoneToAll p)
-  not-none-to-all n = says-not-zero None _ (sym (n E tableE readE blank blank-room) ∙ shown .first .0)
+  none-to-all : ¬ (NoneToAll p)
+  none-to-all n = says-not-zero None _ (sym (n E tableE readE blank blank-room) ∙ shown .first .0)
 
-  pub not-nothing-written : ¬ (NothingWritten p)
+  nothing-written : ¬ (NothingWritten p)
   unfolding blank
-  not-nothing-written n =
+  nothing-written n =
       let z : _≡_ {A = ℕ} 0x21 0 = ap (λ (l : List ℕ). getD l 0 0) (sym (shown .first .1) ∙ n E blank) in
       omega arith
 
-  pub not-one-fixed-plan : (fixed : List ℕ) → ¬ (OneFixedPlan p fixed)
+  one-fixed-plan : (fixed : List ℕ) → ¬ (OneFixedPlan p fixed)
   unfolding blank
-  not-one-fixed-plan fixed n =
+  one-fixed-plan fixed n =
       let z : _≡_ {A = ℕ} 0x21 0x20 =
       ap (λ (l : List ℕ). getD l 0 0)
       (sym (shown .first .1) ∙ (n E blank 7 40 45 (shown .first .0) ∙ (sym (n table6 blank 5 20 20 (shown .sixth .0)) ∙ shown .sixth .1))) in
       omega arith
 
-  pub not-last-is-busy : ¬ (LastIsBusy p)
-  not-last-is-busy n = let z : _≡_ {A = ℕ} 16 14 = n table7 blank 5 14 16 (shown .seventh) in omega arith
+  last-is-busy : ¬ (LastIsBusy p)
+  last-is-busy n = let z : _≡_ {A = ℕ} 16 14 = n table7 blank 5 14 16 (shown .seventh) in omega arith
+
+  shown-not-empty : NotEmpty p
+  shown-not-empty = record {
+    not-none-to-all = none-to-all;
+    not-one-fixed-plan = one-fixed-plan;
+    not-nothing-written = nothing-written;
+    not-last-is-busy = last-is-busy;
+  }
 
 module _ (CanMeet : ℕ → List Job → Type 0) (IsPlan : ℕ → List Job → List Chosen → Type 0) (p : Planner) (s before : List ℕ) (n b l : ℕ) (plans : Plans p s before n b l) where
   -- what is said of a plan are its own figures
@@ -82,7 +90,7 @@ module _ (CanMeet : ℕ → List Job → Type 0) (IsPlan : ℕ → List Job → 
 
 -- The free-order planner.
 module _ (p : Planner) (meets : (s before : List ℕ) → FreeAnswer s before (p .answer s before) (p .area s before)) where
-  pub free-shown : Shown p
+  free-shown : Shown p
   unfolding AllHold marked
   free-shown = record {
     first = marked-hold .0 blank _ _ blank-room (meets E blank);
@@ -90,18 +98,24 @@ module _ (p : Planner) (meets : (s before : List ℕ) → FreeAnswer s before (p
     seventh = marked-hold .1 .1 .1 .1 .1 .1 .0 blank _ _ blank-room (meets table7 blank) .0;
   }
 
+  pub free-not-empty : NotEmpty p
+  free-not-empty = shown-not-empty p free-shown
+
   pub free-figures : (s before : List ℕ) (n b l : ℕ) → Plans p s before n b l
       → (t : JobTable) × (xs : List Chosen) × (readTable s ≡ accepted t) × BestPlan (t .deadline) (t .jobs) xs × TrueFigures xs n b l before (p .area s before)
   free-figures s before n b l plans = figures-of Met BestPlan p s before n b l plans (meets s before)
 
 -- The given-order planner.
 module _ (p : Planner) (meets : (s before : List ℕ) → GivenAnswer s before (p .answer s before) (p .area s before)) where
-  pub given-shown : Shown p
+  given-shown : Shown p
   given-shown = record {
     first = given-E blank _ _ blank-room (meets E blank);
     sixth = given-6 blank _ _ blank-room (meets table6 blank);
     seventh = given-7 blank _ _ blank-room (meets table7 blank) .0;
   }
+
+  pub given-not-empty : NotEmpty p
+  given-not-empty = shown-not-empty p given-shown
 
   pub given-figures : (s before : List ℕ) (n b l : ℕ) → Plans p s before n b l
       → (t : JobTable) × (xs : List Chosen) × (readTable s ≡ accepted t) × BestInOrder (t .deadline) (t .jobs) xs × TrueFigures xs n b l before (p .area s before)

@@ -1,6 +1,7 @@
 -- No runner that meets its contract handles the first event and then only nods, or keeps the last frame's value until a new one comes.
 -- Both are shown by Table E with its plan. Assumes nothing.
 use mathlib.Core.Path.{_≡_, refl, sym, ap, _∙_}
+use mathlib.Core.Bool.{true, false}
 use mathlib.Core.List.{List, [], _∷_}
 use Prim.Native.Nat.{ℕ}
 use Rattle.model.proofs.Lists.{clash}
@@ -12,11 +13,11 @@ use Rattle.frame.specs.declared.Frame.{Frame}
 use Rattle.frame.specs.declared.Sample.{Sample}
 use Rattle.frame.specs.declared.Reading.the-variants.{Fresh, Pending}
 use Rattle.frame.specs.declared.Answer.{Answer}
-use Rattle.frame.specs.declared.Answer.the-variants.{Done, Read}
+use Rattle.frame.specs.declared.Answer.the-variants.{Done, Panel, Read}
 use Rattle.frame.specs.declared.Event.{Event}
 use Rattle.frame.specs.declared.Event.the-variants as E
 use Rattle.frame.specs.Sound.{first, sound?, open?, begun?, ready?, okBegun, okFrom, okAt, okOrder, okId}
-use Rattle.frame.specs.Step.{idle, eventStep, spanStep, backStep, closeStep, readOf, whereIs}
+use Rattle.frame.specs.Step.{idle, eventStep, spanStep, backStep, closeStep, nextOf, readOf, whereIs}
 use Rattle.frame.specs.Begin.{beginStep, begun, entriesOf, orderOf, awayIn, filled}
 use Rattle.marked.specs.Marked as marked
 use Rattle.marked.specs.Marked.{planE, one}
@@ -73,6 +74,10 @@ pending-next : reads (beginStep closed marked.E planE 2 .frame) 1 ≡ Read Pendi
 unfolding reads marked.E readTable frameAt jobsRead jobAt judged formOf listFrom used readPlan recordAt jobOf listed lacksOne beginStep begun entriesOf orderOf awayIn filled first sound? open? begun? ready? okBegun okFrom okAt okOrder okId spanStep backStep closeStep readOf whereIs
 pending-next = refl
 
+panel-first : eventStep opened E.Next .answer ≡ Panel 1 true
+unfolding marked.E readTable frameAt jobsRead jobAt judged formOf listFrom used readPlan recordAt jobOf listed lacksOne beginStep begun entriesOf orderOf awayIn filled first sound? open? ready? okBegun okFrom okAt okOrder okId nextOf
+panel-first = refl
+
 not-both : (x : Sample) → Read (Fresh x) ≡ Read Pending → ⊥
 not-both x e = clash (cc)
 
@@ -83,6 +88,12 @@ module _ (r : Runner) (meets : Meets r) where
 
   same-handled : r .step (r .begin idle marked.E planE 1 .frame) spanOne .frame ≡ handled
   same-handled = rw (meets .begins idle marked.E planE 1) (ap (λ s. s .frame) (meets .steps opened spanOne))
+
+  -- at the start of E's frame the job on the panel is job 1, to be sent away: not the job after it, and not kept here
+  pub not-another-job : ¬ (r .step opened E.Next .answer ≡ Panel 2 true) × ¬ (r .step opened E.Next .answer ≡ Panel 1 false)
+  not-another-job =
+      let first : r .step opened E.Next .answer ≡ Panel 1 true = rw (meets .steps opened E.Next) panel-first in
+      ((λ e. clash (cc (sym first ∙ e))), (λ e. clash (cc (sym first ∙ e))))
 
   pub not-only-nods : ¬ (OnlyNods r)
   not-only-nods n =

@@ -64,6 +64,13 @@ module _ (p : Planner) where
       (s : List ℕ) (t : JobTable) → readTable s ≡ accepted t →
       ((cs : List Chosen) → Choice (t .jobs) cs → ¬ (Kind (t .deadline) cs)) → SaysNone s
 
+-- it is none of these
+pub record NotEmpty (p : Planner) : Type 0 where
+  pub not-none-to-all : ¬ (NoneToAll p)
+  pub not-one-fixed-plan : (fixed : List ℕ) → ¬ (OneFixedPlan p fixed)
+  pub not-nothing-written : ¬ (NothingWritten p)
+  pub not-last-is-busy : ¬ (LastIsBusy p)
+
 -- "a busy total that is not the sum of the plan's spans, or a last finish that is not the greatest of its finishes": xs are the jobs of the plan that is written
 pub record TrueFigures (xs : List Chosen) (n busy last : ℕ) (before after : List ℕ) : Type 0 where
   pub written : after ≡ planBytes (stepsFor xs) ++ drop n before

@@ -3,6 +3,7 @@
 use Prim.Native.Nat.{ℕ, zero, suc, _+_, _-_, _*_, _≤_, _<_}
 use mathlib.Core.Path.{_≡_, refl, sym, ap, _∙_}
 use mathlib.Core.Bool.{Bool, true, false, cond}
+use mathlib.Core.Logic.{_↔_}
 use mathlib.Core.List.{List, [], _∷_, _++_}
 use lib.ListN.{length, getD, drop, length-drop}
 use lib.Seq.{getD-drop}
@@ -15,13 +16,15 @@ use Rattle.table.specs.declared.kind.StepKind.{StepKind}
 use Rattle.table.specs.declared.kind.StepKind.the-variants.{HereStep, AwayStep, EndStep}
 use Rattle.table.specs.declared.kind.Meaning.the-variants.{Step as StepOf}
 use Rattle.table.specs.Limits.{mostJobs, longestPlan}
-use Rattle.table.specs.Refusals.{accepted}
+use Rattle.table.specs.declared.refusal.Refusal.{Refusal}
+use Rattle.table.specs.Refusals.{refusalSays, Outcome, accepted, refused}
 use Rattle.table.specs.Records.{form, formOf, stepOnly, one, last}
 use Rattle.table.proofs.Records.{stepByte, stepLength, opened}
+use Rattle.table.proofs.Refusals.{refused-says}
 use Rattle.table.proofs.Listed.{joined, Distinct, listed-good, listed-bytes, listed-back}
 use Rattle.plan.specs.declared.Step.{Step}
 use Rattle.plan.specs.declared.RecordRead.the-variants.{RecordRefused}
-use Rattle.plan.specs.Plans.{stepBody, recordAt, stepEntry, stepId, readPlan, stepBytes, planBytes, noStep, stepAt}
+use Rattle.plan.specs.Plans.{stepBody, recordAt, stepEntry, stepId, readPlan, planRead, planReadSays, stepBytes, planBytes, noStep, stepAt}
 use Rattle.plan.proofs.Steps.{planEntry, step-read, end-read, plan-length}
 
 -- the bytes of a plan are those of its steps, and then the end record's
@@ -114,3 +117,7 @@ plan-back xs few distinct =
     let s = planBytes xs in
     listed-back stepId s (planEntry s) stepBytes (0x2F ∷ []) (λ (x : Step). Unit {0}) (step-back s) (end-back s)
     0 xs few distinct (all-all (λ x. tt) xs) (bytes-joined xs)
+
+-- the answer in numbers: the number and the place of a refusal are said exactly where it is given
+pub reading-says : (s : List ℕ) (f : Refusal) → (planReadSays (planRead (readPlan s)) ≡ refusalSays f) ↔ (readPlan s ≡ refused f)
+reading-says s f = refused-says (λ (o : Outcome (List Step)). planReadSays (planRead o)) (λ (xs : List Step). length xs ∷ []) (λ xs. refl) (λ g. refl) (readPlan s) f

@@ -10,7 +10,7 @@ use Rattle.table.specs.declared.refusal.Refusal.the-variants.{Many, After, None
 use Rattle.table.specs.declared.kind.StepKind.{StepKind}
 use Rattle.table.specs.declared.kind.StepKind.the-variants.{HereStep, AwayStep, EndStep}
 use Rattle.table.specs.Limits.{mostJobs}
-use Rattle.table.specs.Refusals.{place, Outcome, accepted, refused}
+use Rattle.table.specs.Refusals.{refusalSays, place, Outcome, accepted, refused}
 use Rattle.table.specs.Records.{stepOnly, judged, Entry, one, last, bad, listFrom}
 use Rattle.plan.specs.declared.Step.{Step}
 use Rattle.plan.specs.declared.Record.the-variants.{Listed, Last}
@@ -52,6 +52,11 @@ readPlan s = listFrom stepId (λ (at count : ℕ). stepEntry (recordAt s at coun
 abbrev pub planRead : Outcome (List Step) → PlanRead
 planRead (accepted xs) = PlanIs (length xs)
 planRead (refused f) = PlanRefused f
+
+-- number and values: 0 and the number of steps, else the refusal's
+abbrev pub planReadSays : PlanRead → List ℕ
+planReadSays (PlanIs n) = 0 ∷ n ∷ []
+planReadSays (PlanRefused f) = refusalSays f
 
 -- what `refusal_of` answers: a refused record's refusal, which is passed on; of a record that is read, which no reader asks, `None`
 abbrev pub refusalOf : RecordRead → Refusal

@@ -50,13 +50,13 @@ single-next found next r (inl (e, inr (t, l))) (low, zero) =
     t' n = sym t ∙ n
 single-next found next r (inr (e, l)) single = subst Single (sym e) single
 
+choice-path : (r q : Choice) → r .total ≡ q .total → r .mask ≡ q .mask → r ≡ q
+choice-path r q e f = λ i. record { total = e i; mask = f i }
+
 -- two choices that hold the same cell so are the same: what the least of all columns is, is settled
 pub least-settled : (c : Cell) (r q : Choice) → Single r × HeldBy c r → Single q × HeldBy c q → r ≡ q
 least-settled empty r q ((rl, rz), rh) ((ql, qz), qh) =
     let x : r .total ≡ nothing = omega arith in
     let y : q .total ≡ nothing = omega arith in
     choice-path r q (x ∙ sym y) (rz x ∙ sym (qz y))
-  where
-    choice-path : (r q : Choice) → r .total ≡ q .total → r .mask ≡ q .mask → r ≡ q
-    choice-path r q e f = λ i. record { total = e i; mask = f i }
-least-settled (cell a m) r q (rs, rh) (qs, qh) = λ i. record { total = (rh .0 ∙ sym (qh .0)) i; mask = (rh .1 ∙ sym (qh .1)) i }
+least-settled (cell a m) r q (rs, rh) (qs, qh) = choice-path r q (rh .0 ∙ sym (qh .0)) (rh .1 ∙ sym (qh .1))

@@ -10,7 +10,7 @@ use Rattle.model.specs.declared.Job.{Job}
 use Rattle.model.specs.declared.Sending.{Sending}
 use Rattle.model.specs.declared.Sending.the-variants.{HereOnly, Either}
 use Rattle.model.specs.Timetable.{setupTime, returnTime}
-use Rattle.rows.specs.Columns.{Kept, Sent, RoomFor, Stepped, keptTotal, lowerTotal, lowerMask}
+use Rattle.rows.specs.Columns.{Raised, Sent, RoomFor, Stepped, keptTotal, lowerTotal, lowerMask}
 
 -- setup and return time as the job's form has them
 setup-of : (o : Job) (s : Sending) → o .sending ≡ s → setupTime o ≡ elim s [ HereOnly ↦ 0 | Either s i ↦ s ]
@@ -42,7 +42,7 @@ room-within D S I s e (inl r) = (r .2, omega (arith, r .1))
 room-within D S I s e (inr r) = (omega (arith, r .0), omega (arith, r .1))
 
 -- a job more in three ranges: kept in the columns e..D, kept or sent in s..e, kept below s
-module _ (D : ℕ) (o : Job) (bit s e : ℕ) (ts ms ts₁ ts₂ ms₂ ts₃ : List ℕ) (room : RoomFor D (setupTime o) (returnTime o) s e) (k : Kept e (D + 1) (o .local) ts ts₁) (w : Sent s e s (o .local) bit ts₁ ms ts₂ ms₂) (l : Kept 0 s (o .local) ts₂ ts₃) where
+module _ (D : ℕ) (o : Job) (bit s e : ℕ) (ts ms ts₁ ts₂ ms₂ ts₃ : List ℕ) (room : RoomFor D (setupTime o) (returnTime o) s e) (k : Raised e (D + 1) (o .local) ts ts₁) (w : Sent s e s (o .local) bit ts₁ ms ts₂ ms₂) (l : Raised 0 s (o .local) ts₂ ts₃) where
   ordered : s ≤ e
   ordered = room-within D (setupTime o) (returnTime o) s e room .0
 

@@ -16,14 +16,14 @@ use Rattle.model.specs.Recurrence.{cell, row, Holds}
 use Rattle.model.proofs.Bounds.{row-bounds}
 use Rattle.model.proofs.Held.{next-sent, next-kept}
 use Rattle.rows.specs.Rows.{nothing}
-use Rattle.rows.specs.Columns.{Fit, Kept, lower, Stepped, Column, Rows}
+use Rattle.rows.specs.Columns.{Fit, Raised, lower, Stepped, Column, Rows}
 
 -- the same column by other names of its numbers
 column-at : {D : ℕ} {os : List Job} {t x y x' y' : ℕ} → x' ≡ x → y' ≡ y → Column D os t x y → Column D os t x' y'
 column-at {D} {os} {t} {x} {y} {x'} {y'} p q c = subst (λ (u : ℕ). Column D os t u y') (sym p) (subst (Column D os t x) (sym q) c)
 
 -- before the first job: column 0 has the total 0, and every other stands for nothing
-pub rows-start : (D n : ℕ) (ts : List ℕ) → n ≡ 4001 → D ≤ 4000 → Kept 1 (D + 1) nothing (replicate n zero) ts → Rows D [] ts (replicate n zero)
+pub rows-start : (D n : ℕ) (ts : List ℕ) → n ≡ 4001 → D ≤ 4000 → Raised 1 (D + 1) nothing (replicate n zero) ts → Rows D [] ts (replicate n zero)
 rows-start D n ts e h k =
     record { totalColumns = k .columns; maskColumns = length-replicate n zero ∙ e; each = at; locals = omega arith }
   where

@@ -41,9 +41,9 @@ abbrev pub lowerMask : ℕ → ℕ → ℕ → List ℕ → List ℕ → ℕ →
 lowerMask setup local bit ts ms t =
     lower (keptTotal local ts t) (getD ts (t - setup) 0) (getD ms t 0) (getD ms (t - setup) 0 + bit)
 
--- the columns from..to keep the job
-abbrev pub Kept : ℕ → ℕ → ℕ → List ℕ → List ℕ → Type 0
-Kept from to local ts ts' = Changed from to (keptTotal local ts) ts ts'
+-- each total of the columns from..to has grown by so much: by a local time where a job is kept here
+abbrev pub Raised : ℕ → ℕ → ℕ → List ℕ → List ℕ → Type 0
+Raised from to local ts ts' = Changed from to (keptTotal local ts) ts ts'
 
 -- the columns from..to keep the job or send it, whichever has the lower total
 pub record Sent (from to setup local bit : ℕ) (ts ms ts' ms' : List ℕ) : Type 0 where

@@ -11,7 +11,7 @@ ghost use Rattle.model.specs.Recurrence.{Holds, bestBelow};
 ghost use Rattle.model.specs.Timetable.{setupTime, returnTime};
 ghost use Rattle.table.specs.Limits.{mostJobs, largestTime};
 ghost use Rattle.rows.specs.Rows.{nothing, Ready};
-ghost use Rattle.rows.specs.Columns.{Fit, Kept, Sent, RoomFor, Stepped, Rows, lower, Better, Single};
+ghost use Rattle.rows.specs.Columns.{Fit, Raised, Sent, RoomFor, Stepped, Rows, lower, Better, Single};
 
 // A total of 1,000,000 or more stands for nothing: no choice of the jobs so far has this setup total.
 const NOTHING: u32 = 1_000_000;
@@ -59,13 +59,13 @@ fn lower_of(kept: u32, sent: u32, of_kept: u32, of_sent: u32) -> u32
     if sent < kept { of_sent } else { of_kept }
 }
 
-// The columns from..to keep the job here: each total grows by the local time.
-fn keep(totals: &mut [u32; 4001], from: usize, to: usize, local: u32)
-    requires { ⌜ (length (now totals) ≡ 4001) × (from ≤ to) × (to ≤ 4001) × Fit to local (now totals) ⌝ }
-    ensures { λ r. ⌜ Kept from to local (now (totals .entry)) (now (totals .exit)) ⌝ }
+// Each total of the columns from..to grows by so much.
+fn raise(totals: &mut [u32; 4001], from: usize, to: usize, by: u32)
+    requires { ⌜ (length (now totals) ≡ 4001) × (from ≤ to) × (to ≤ 4001) × Fit to by (now totals) ⌝ }
+    ensures { λ r. ⌜ Raised from to by (now (totals .entry)) (now (totals .exit)) ⌝ }
 {
     for t in from..to {
-        totals[t] += local;
+        totals[t] += by;
     }
 }
 
@@ -100,9 +100,9 @@ fn add_job(totals: &mut [u32; 4001], masks: &mut [u32; 4001], d: usize, job: Job
 {
     let local = job.local as u32;
     let room = room_for(d, job);
-    keep(totals, room.end, d + 1, local);
+    raise(totals, room.end, d + 1, local);
     send(totals, masks, room.setup, room.end, local, bit);
-    keep(totals, 0, room.setup, local);
+    raise(totals, 0, room.setup, local);
 }
 
 // The better of two choices: the lower total, at equal totals the smaller mask.
@@ -144,8 +144,8 @@ pub fn least(d: usize, base: u32, jobs: [Job; Table::MOST_JOBS], count: usize) -
 {
     let mut totals = [0u32; 4001];
     let mut masks = [0u32; 4001];
-    // Before the first job only column 0 is reached. Those above d are not looked at, and stay as they are.
-    keep(&mut totals, 1, d + 1, NOTHING);
+    // Before the first job only column 0 is reached. Columns above d are never read, so they need no mark.
+    raise(&mut totals, 1, d + 1, NOTHING);
     for k in 0..count {
         let job = jobs[k];
         add_job(&mut totals, &mut masks, d, job, 1 << k);

@@ -127,6 +127,23 @@ with-step = (
   (λ e. let z : _≡_ {A = ℕ} 2 1 = ap (λ (p : Plan). p .count) e in omega arith),
 )
 
+-- a draft that has a job already, or numbers of none of its steps
+abbrev laidAlone : Draft
+laidAlone = record { plan = planOf []; laid = record { busy = 5; last = 45 } }
+
+pub draft-empty : ¬ (withChosen (draftOf []) (chosen job true) ≡ draftOf []) × ¬ (laidAlone ≡ draftOf [])
+draft-empty = (
+  (λ e. let z : _≡_ {A = ℕ} 1 0 = ap (λ (d : Draft). d .plan .count) e in omega arith),
+  (λ e. let z : _≡_ {A = ℕ} 5 0 = ap (λ (d : Draft). d .laid .busy) e in omega arith),
+)
+
+-- the job not added; its numbers without its step
+pub with-job : ¬ (draftOf [] ≡ withChosen (draftOf []) (chosen job true)) × ¬ (laidAlone ≡ withChosen (draftOf []) (chosen job true))
+with-job = (
+  (λ e. let z : _≡_ {A = ℕ} 0 1 = ap (λ (d : Draft). d .plan .count) e in omega arith),
+  (λ e. let z : _≡_ {A = ℕ} 0 1 = ap (λ (d : Draft). d .plan .count) e in omega arith),
+)
+
 -- a job left out, or listed where it should not be
 pub with-if : ¬ (draftOf [] ≡ withIf (draftOf []) true (chosen job true)) × ¬ (withChosen (draftOf []) (chosen job true) ≡ withIf (draftOf []) false (chosen job true))
 with-if = (
@@ -166,7 +183,7 @@ pub sound : ¬ (true ≡ sound? (with-phase 0)) × ¬ (false ≡ sound? idle)
 unfolding sound? okBegun
 sound = ((λ e. clash (cc)), (λ e. clash (cc)))
 
--- ---- panel: length and busy total exchanged, the last finish for the busy total; a refusal that reads as accepted; a place lost
+-- ---- panel: busy total and last finish exchanged; a refusal that reads as accepted; a place lost; another deadline
 
 abbrev planned : ℕ → ℕ → ℕ → ℕ → ℕ → PlannedNumbers
 planned number place length busy last = record { number = number; place = place; length = length; busy = busy; last = last }

@@ -74,12 +74,6 @@ row-form HereRow = refl
 row-form EitherRow = refl
 row-form EndRow = refl
 
-pub step-form : (k : StepKind) → formOf (stepByte k) ≡ form (Step k) (stepLength k)
-unfolding formOf
-step-form HereStep = refl
-step-form AwayStep = refl
-step-form EndStep = refl
-
 pub frame-form : formOf 0x10 ≡ form Frame 2
 unfolding formOf
 frame-form = refl

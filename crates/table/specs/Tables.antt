@@ -24,7 +24,7 @@ use Rattle.table.specs.declared.TableVerdict.{TableVerdict}
 use Rattle.table.specs.declared.TableVerdict.the-variants.{Whole, Refused}
 use Rattle.table.specs.declared.TableRead.{TableRead}
 use Rattle.table.specs.Limits.{mostJobs, largestTime}
-use Rattle.table.specs.Refusals.{place, Outcome, accepted, refused}
+use Rattle.table.specs.Refusals.{refusalSays, place, Outcome, accepted, refused}
 use Rattle.table.specs.Records.{wordAt, frameOnly, rowOnly, judged, Entry, one, last, bad, listFrom}
 
 -- What a table means: a deadline and its jobs.
@@ -128,6 +128,11 @@ pub record Sound (t : Table) : Type 0 where
 abbrev pub tableRead : Outcome JobTable → TableRead
 tableRead (accepted t) = record { verdict = Whole; table = tableOf (t .deadline) (t .jobs) }
 tableRead (refused f) = record { verdict = Refused f; table = emptyTable }
+
+-- number and values of the reader's verdict: 0 for a table, else the refusal's
+abbrev pub verdictSays : TableVerdict → List ℕ
+verdictSays Whole = 0 ∷ []
+verdictSays (Refused f) = refusalSays f
 
 -- what `ended_at` answers: "After the end record, AFTER"
 unfoldable pub endVerdict : List ℕ → ℕ → TableVerdict

@@ -1,7 +1,7 @@
 //! Logs of calls on the frame runner: frames as a panel runs them with some wrong calls
 //! between, and calls of all kinds in any order.
 
-use super::{Damage, Random};
+use super::{Damage, Random, E, E_PLAN};
 use crate::frame::Frame;
 use crate::plan::{self, Choice};
 use crate::planner;
@@ -21,6 +21,15 @@ const VALUES: [f32; 8] = [
 ];
 
 const NOT_VALUES: [f32; 3] = [f32::NAN, f32::INFINITY, f32::NEG_INFINITY];
+
+/// The begin of a frame with table E and its plan.
+pub fn begin_e(number: u32) -> Call<'static> {
+    Call::Begin {
+        number,
+        table: &E,
+        plan: &E_PLAN,
+    }
+}
 
 /// A log of some frames, whole calls alone.
 pub fn frames(random: &mut Random, frames: usize) -> Vec<u8> {

@@ -13,36 +13,36 @@ cast-local c = search needs
 room-for-requires : tie.Need-room-for-requires
 room-for-requires c κs = search needs
 
-add-keep : tie.Need-add-keep
-add-keep c = search needs
+add-raise : tie.Need-add-raise
+add-raise c = search needs
 
-keep-requires : tie.Need-keep-requires
-keep-requires c κs =
+raise-requires : tie.Need-raise-requires
+raise-requires c κs =
     let r = room-within _ _ _ _ _ (c .before .room-for .ensures) in
     (c .before .before .before .pre .0, r .1, omega arith, c .before .before .before .pre .3)
 
 send-requires : tie.Need-send-requires
 send-requires c κs =
     let r = room-within _ _ _ _ _ (c .before .before .before .before .room-for .ensures) in (
-      c .before .before .keep .ensures .columns,
+      c .before .before .raise .ensures .columns,
       c .before .before .before .before .before .before .pre .1,
       r .0,
       omega arith,
-      fit-before _ _ _ _ _ _ _ _ (c .before .before .keep .ensures) (omega arith) (r .1) (c .before .before .before .before .before .before .pre .3),
+      fit-before _ _ _ _ _ _ _ _ (c .before .before .raise .ensures) (omega arith) (r .1) (c .before .before .before .before .before .before .pre .3),
       (λ t h. c .before .before .before .before .before .before .pre .4 t (omega arith)),
     )
 
-keep-requires-2 : tie.Need-keep-requires-2
-keep-requires-2 c κs =
+raise-requires-2 : tie.Need-raise-requires-2
+raise-requires-2 c κs =
     let r = room-within _ _ _ _ _ (c .before .before .before .before .before .before .room-for .ensures) in (
       c .before .send .ensures .totals .columns,
       omega arith,
       omega arith,
-      fit-before _ _ _ _ _ _ _ _ (c .before .send .ensures .totals) (omega arith) (r .0) (fit-before _ _ _ _ _ _ _ _ (c .before .before .before .before .keep .ensures) (omega arith) (r .1) (c .before .before .before .before .before .before .before .before .pre .3)),
+      fit-before _ _ _ _ _ _ _ _ (c .before .send .ensures .totals) (omega arith) (r .0) (fit-before _ _ _ _ _ _ _ _ (c .before .before .before .before .raise .ensures) (omega arith) (r .1) (c .before .before .before .before .before .before .before .before .pre .3)),
     )
 
 returns : tie.Need-returns
-returns c = stepped _ (c .before .before .before .before .before .before .before .before .before .args .job) _ _ _ _ _ _ _ _ _ (c .before .before .before .before .before .before .before .room-for .ensures) (c .before .before .before .before .before .keep .ensures) (c .before .before .send .ensures) (c .keep2 .ensures)
+returns c = stepped _ (c .before .before .before .before .before .before .before .before .before .args .job) _ _ _ _ _ _ _ _ _ (c .before .before .before .before .before .before .before .room-for .ensures) (c .before .before .before .before .before .raise .ensures) (c .before .before .send .ensures) (c .raise2 .ensures)
 
 pub add-job-spec : {M : Type 1} → statement M
 add-job-spec =
@@ -50,8 +50,8 @@ add-job-spec =
     (tie.spec
     cast-local
     room-for-requires
-    add-keep
-    keep-requires
+    add-raise
+    raise-requires
     send-requires
-    keep-requires-2
+    raise-requires-2
     returns)

@@ -18,16 +18,16 @@ Inv-loop d base count jobs totals₀ masks₀ k₀ totals masks k = (k ≤ count
 abbrev μ-loop : tie.MeasureT-loop
 μ-loop d base count jobs totals₀ masks₀ k₀ totals masks k = count - k
 
-add-keep : tie.Need-add-keep Inv-loop μ-loop
-add-keep c = omega (arith, c .before .pre .deadline)
+add-raise : tie.Need-add-raise Inv-loop μ-loop
+add-raise c = omega (arith, c .before .pre .deadline)
 
-keep-requires : tie.Need-keep-requires Inv-loop μ-loop
-keep-requires c κs =
+raise-requires : tie.Need-raise-requires Inv-loop μ-loop
+raise-requires c κs =
     let low = c .before .pre .deadline in
     (refl, omega arith, omega arith, (λ t h. omega (arith, getD-replicate 4001 t zero 0 (omega arith))))
 
 loop-holds : tie.Need-loop-holds Inv-loop μ-loop
-loop-holds c = (omega arith, rows-start _ 4001 _ refl (c .before .before .pre .deadline) (c .keep .ensures))
+loop-holds c = (omega arith, rows-start _ 4001 _ refl (c .before .before .pre .deadline) (c .raise .ensures))
 
 mul-job : tie.Need-mul-job Inv-loop μ-loop
 mul-job c = search needs
@@ -79,8 +79,8 @@ least-spec =
     (tie.spec
     Inv-loop
     μ-loop
-    add-keep
-    keep-requires
+    add-raise
+    raise-requires
     loop-holds
     mul-job
     array-copy-out-job

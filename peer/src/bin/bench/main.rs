@@ -73,10 +73,7 @@ impl Arguments {
                 _ => return Err(USAGE.to_string()),
             }
         }
-        let proved = Library::proved().ok_or(
-            "the proved library is not linked: make libpanel.a with `rt staticlib panel` and \
-             build again",
-        )?;
+        let proved = Library::proved()?;
         if !replay.is_file() {
             return Err(format!("there is no program {}", replay.display()));
         }

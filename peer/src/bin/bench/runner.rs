@@ -8,7 +8,7 @@ use std::path::Path;
 use std::process::{Command, Stdio};
 use std::time::Instant;
 
-use peer::generate::{E, E_PLAN};
+use peer::generate::calls;
 use peer::replay::{replay, Call, LONGEST};
 
 use crate::timing::median;
@@ -63,11 +63,7 @@ fn one_frame(log: &mut Vec<u8>, number: u32) {
         value,
     };
     let calls = [
-        Call::Begin {
-            number,
-            table: &E,
-            plan: &E_PLAN,
-        },
+        calls::begin_e(number),
         Call::Next,
         span(1, 5),
         Call::Next,
@@ -87,12 +83,7 @@ fn one_frame(log: &mut Vec<u8>, number: u32) {
 /// The most calls that fit.
 fn nexts() -> Vec<u8> {
     let mut log = Vec::new();
-    Call::Begin {
-        number: 1,
-        table: &E,
-        plan: &E_PLAN,
-    }
-    .write(&mut log);
+    calls::begin_e(1).write(&mut log);
     while log.len() < LONGEST {
         Call::Next.write(&mut log);
     }

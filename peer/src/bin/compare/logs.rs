@@ -1,6 +1,6 @@
 //! The program `replay` on logs of calls.
 
-use peer::generate::{calls, Damage, Random, E, E_PLAN};
+use peer::generate::{calls, Damage, Random};
 use peer::replay::{replay, Call, LONGEST};
 
 use crate::counts::{hex, refusals, Differences, Grid};
@@ -72,11 +72,7 @@ fn cut_bodies(tally: &mut Tally, random: &mut Random) {
 fn every_call() -> Vec<u8> {
     let (number, id, value) = (7, 1, -0.0);
     let calls = [
-        Call::Begin {
-            number,
-            table: &E,
-            plan: &E_PLAN,
-        },
+        calls::begin_e(number),
         Call::Next,
         Call::SpanEnd { id, time: 5, value },
         Call::Return {

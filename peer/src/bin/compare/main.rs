@@ -84,10 +84,7 @@ impl Sides {
             }
         }
         Ok(Sides {
-            proved: Library::proved().ok_or(
-                "the proved library is not linked: make libpanel.a with `rt staticlib panel` \
-                 and build again",
-            )?,
+            proved: Library::proved()?,
             lister: Program::at(lister)?,
             replay: Program::at(replay)?,
             cases,

@@ -1,20 +1,20 @@
--- `rows::keep` adds the local time in each column of a range. The loop's invariant: the columns passed are changed, and no other.
+-- `rows::raise` adds the same in each column of a range. The loop's invariant: the columns passed are changed, and no other.
 -- Assumes nothing.
 use mathlib.Core.Path.{_≡_, ap}
 use mathlib.Core.Logic.{inr}
 use Prim.Native.Nat.{ℕ, _+_, _-_, _≤_}
 use native.Mathlib.Omega.{arith}
 use borrow.Author.Needs.{needs}
-use Rattle.rows.specs.Columns.{Kept}
+use Rattle.rows.specs.Columns.{Raised}
 use Rattle.rows.proofs.Columns.{changed-none, changed-up}
-use Rattle.rows.proofs.keep.Statement.{statement}
-use Rattle.rows.proofs.keep.Tie as tie
+use Rattle.rows.proofs.raise.Statement.{statement}
+use Rattle.rows.proofs.raise.Tie as tie
 
 abbrev Inv-loop : tie.InvT-loop
-Inv-loop totals₀ from to local t₀ totals t = (from ≤ t) × (t ≤ to) × Kept from t local totals₀ totals
+Inv-loop totals₀ from to by t₀ totals t = (from ≤ t) × (t ≤ to) × Raised from t by totals₀ totals
 
 abbrev μ-loop : tie.MeasureT-loop
-μ-loop totals₀ from to local t₀ totals t = to - t
+μ-loop totals₀ from to by t₀ totals t = to - t
 
 loop-holds : tie.Need-loop-holds Inv-loop μ-loop
 loop-holds c = (omega arith, omega arith, changed-none _ _ _ (c .pre .0))
@@ -38,13 +38,13 @@ loop-less : tie.Need-loop-less Inv-loop μ-loop
 loop-less c = search needs
 
 loop-again : tie.Need-loop-again Inv-loop μ-loop
-loop-again c = (omega arith, omega arith, changed-up _ _ _ _ _ _ (c .before .before .loop .inv .2) (omega arith) (omega arith) (ap (λ (x : ℕ). x + c .before .before .before .args .local) (c .before .before .loop .inv .2 .outside (c .before .before .loop .t) (inr (omega arith)))))
+loop-again c = (omega arith, omega arith, changed-up _ _ _ _ _ _ (c .before .before .loop .inv .2) (omega arith) (omega arith) (ap (λ (x : ℕ). x + c .before .before .before .args .by) (c .before .before .loop .inv .2 .outside (c .before .before .loop .t) (inr (omega arith)))))
 
 returns : tie.Need-returns Inv-loop μ-loop
 returns c = let e : c .before .loop .t ≡ c .before .before .args .to = omega arith in rw e at (c .before .loop .inv .2)
 
-pub keep-spec : {M : Type 1} → statement M
-keep-spec =
+pub raise-spec : {M : Type 1} → statement M
+raise-spec =
     tie.close
     (tie.spec
     Inv-loop
