@@ -1,4 +1,4 @@
--- What a plan that passes the check tells of its table, position by position: each step names a job, the steps are enough for the jobs,
+-- What a plan that passes the check tells of its table, position by position: each step names a job, there are as many steps as jobs,
 -- and ids differ. Assumes nothing.
 use Prim.Native.Nat.{ℕ, zero, suc, _≤_, _<_}
 use native.Mathlib.Omega.{arith}
@@ -15,6 +15,8 @@ use Rattle.model.specs.Lists.{All, Pairwise}
 use Rattle.model.specs.Positions.{noJob}
 use Rattle.model.specs.Timetable.{Chosen}
 use Rattle.model.proofs.Lists.{clash, all-map, map-all, all-at}
+use Rattle.model.proofs.Permutations.{length-perm}
+use Rattle.model.proofs.PlanOrder.{jobOf as theJob}
 use Rattle.table.specs.Refusals.{Outcome, accepted, refused}
 use Rattle.table.specs.Tables.{JobTable, GoodTable}
 use Rattle.table.specs.declared.refusal.Refusal.the-variants.{Left}
@@ -64,7 +66,8 @@ job-for (x ∷ js) id j e = step (eqb (x .id) id) refl e (job-for js id j)
 
 pub record Passed (t : JobTable) (xs : List plan.Step) : Type 0 where
   pub good : GoodTable t
-  pub enough : length (t .jobs) ≤ length xs
+  pub enough : length (t .jobs) ≡ length xs
+  pub whole : lacksOne (t .jobs) (map stepId xs) ≡ false
   pub named : (k : ℕ) → k < length xs → JobFor (t .jobs) ((getD xs k noStep) .id)
   pub steps-differ : (i k : ℕ) → i < k → k < length xs → (getD xs i noStep) .id ≡ (getD xs k noStep) .id → ⊥
   pub jobs-differ : (i k : ℕ) → i < k → k < length (t .jobs) → (getD (t .jobs) i noJob) .id ≡ (getD (t .jobs) k noJob) .id → ⊥
@@ -73,11 +76,11 @@ module _ (t : JobTable) (good : GoodTable t) (s : List ℕ) (xs : List plan.Step
   abbrev js : List Job
   js = t .jobs
 
-  enough-of : (cs : List Chosen) → Lists js xs cs → lacksOne js (map stepId xs) ≡ false → length js ≤ length xs
+  enough-of : (cs : List Chosen) → Lists js xs cs → lacksOne js (map stepId xs) ≡ false → length js ≡ length xs
   enough-of cs l e =
       let counted : length xs ≡ length cs = ap length (sym (l .steps)) ∙ length-map cs stepOf in
       elim (all-or-left js cs (good .distinct) (rw (l .steps) (accepted-plan s xs read .1)) (l .named)) [
-        | inl all ↦ omega (arith, all .0)
+        | inl all ↦ sym (length-perm (all .1)) ∙ length-map cs theJob ∙ sym counted
         | inr lacks ↦ let z : lacksOne js (map stepId xs) ≡ true = rw (← l .steps) (lacks .1) in clash (cc)
       ]
 
@@ -89,6 +92,7 @@ module _ (t : JobTable) (good : GoodTable t) (s : List ℕ) (xs : List plan.Step
   passed-of cs l false e p = record {
     good = good;
     enough = enough-of cs l e;
+    whole = e;
     named = λ k h. all-at (λ (x : plan.Step). JobFor js (x .id)) xs noStep (named-of cs l) k h;
     steps-differ = λ i k h b. pairwise-at noStep (λ (x y : plan.Step). ¬ (x .id ≡ y .id)) xs (accepted-plan s xs read .1) i k h b;
     jobs-differ = λ i k h b. pairwise-at noJob (λ (x y : Job). ¬ (x .id ≡ y .id)) js (good .distinct) i k h b;

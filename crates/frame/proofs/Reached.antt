@@ -42,11 +42,11 @@ use Rattle.frame.proofs.Filled.{filled-at, filled-length}
 use Rattle.frame.proofs.Sound.{Begun, SoundIn, sound-made, open-phase, open-parts}
 
 -- a sound record, with the room of its array
-record Fine (f : Frame) : Type 0 where
-  sound : sound? f ≡ true
-  sized : length (f .entries) ≡ 32
+pub record Fine (f : Frame) : Type 0 where
+  pub sound : sound? f ≡ true
+  pub sized : length (f .entries) ≡ 32
 
-abbrev FineAfter : Step → Type 0
+abbrev pub FineAfter : Step → Type 0
 FineAfter s = Fine (s .frame)
 
 -- ---- a job's new standing
@@ -184,7 +184,7 @@ module _ (n : ℕ) (t : JobTable) (xs : List plan.Step) (p : Passed t xs) where
   abbrev order : List ℕ
   order = orderOf es xs count
 
-  entry-at : (i : ℕ) → i < count → entryAt es i ≡ entryOf xs count (getD js i noJob)
+  pub entry-at : (i : ℕ) → i < count → entryAt es i ≡ entryOf xs count (getD js i noJob)
   unfolding entriesOf
   entry-at i h = filled-at none (λ (k : ℕ). entryOf xs count (getD js k noJob)) count i (p .good .few) h
 
@@ -199,10 +199,10 @@ module _ (n : ℕ) (t : JobTable) (xs : List plan.Step) (p : Passed t xs) where
       let m = first-some entryId none es ((getD xs k noStep) .id) 0 count (j .at) (omega arith) (omega (arith, j .inside)) (ap entryId (entry-at (j .at) (j .inside)) ∙ j .same-id) in
       m .1 ∙ ap At (sym (order-at k h ∙ ap position (m .1)))
 
-  place-inside : (k : ℕ) → k < count → placeAt order k < count
+  pub place-inside : (k : ℕ) → k < count → placeAt order k < count
   place-inside k h = omega (arith, first-below entryId none es ((getD xs k noStep) .id) 0 count (placeAt order k) (found-at k h))
 
-  has-id : (k : ℕ) → k < count → entryAt es (placeAt order k) .id ≡ (getD xs k noStep) .id
+  pub has-id : (k : ℕ) → k < count → entryAt es (placeAt order k) .id ≡ (getD xs k noStep) .id
   has-id k h = first-has entryId none es ((getD xs k noStep) .id) 0 count (placeAt order k) (found-at k h)
 
   sized-es : length es ≡ 32
@@ -275,7 +275,7 @@ module _ (f : Frame) (fine : Fine f) where
   event-fine (E.Close t) = close-fine t
   event-fine (E.Read id) = fine
 
-  call-fine : (c : Call) → FineAfter (stepOf c f)
+  pub call-fine : (c : Call) → FineAfter (stepOf c f)
   call-fine (begin table s n) = begin-fine table s n
   call-fine (event e) = event-fine e
 

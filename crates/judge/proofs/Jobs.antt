@@ -159,7 +159,7 @@ unfolding lacksOne
 lacks-none ids [] h = refl
 lacks-none ids (j ∷ js) h = rw (h .0, lacks-none ids js (h .1))
 
-lacks-that : (ids : List ℕ) {j : Job} {js : List Job} → used ids (j .id) ≡ false → List·Memᴰ j js → lacksOne js ids ≡ true
+pub lacks-that : (ids : List ℕ) {j : Job} {js : List Job} → used ids (j .id) ≡ false → List·Memᴰ j js → lacksOne js ids ≡ true
 unfolding lacksOne
 lacks-that ids {j} e (List·Memᴰ·head {x = i} q) = rw (← q, e)
 lacks-that ids {j} e (List·Memᴰ·tail {x = i} m) = rw (lacks-that ids e m) (or-true (not (used ids (i .id))))

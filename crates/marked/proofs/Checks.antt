@@ -11,6 +11,7 @@ use Rattle.plan.specs.Plans.{readPlan, recordAt}
 use Rattle.judge.specs.declared.Checked.{Checked}
 use Rattle.judge.specs.Check.{checkedSays, jobOf, listed, lacksOne, checkPlan}
 use Rattle.marked.specs.Marked.{E, planE}
+use Rattle.marked.specs.Allows.{FreeAllows, GivenAllows, LeastAllows, CheckAllows, BeginAllows, StepAllows}
 use Rattle.marked.specs.Versions.{verdict, PassesAll, PassesNone}
 use Rattle.marked.proofs.Examples.{bytes44}
 
@@ -23,7 +24,7 @@ pub late-44 : checkedSays (checkPlan bytes44 planE) ≡ 11 ∷ []
 unfolding checkPlan readTable frameAt jobsRead jobAt judged formOf listFrom used readPlan recordAt jobOf listed lacksOne
 late-44 = refl
 
-module _ (check : List ℕ → List ℕ → Checked) (meets : (s p : List ℕ) → check s p ≡ checkPlan s p) where
+module _ (check : List ℕ → List ℕ → Checked) (meets : (s p : List ℕ) → CheckAllows s p (check s p)) where
   pub not-passes-all : ¬ (PassesAll check)
   not-passes-all n =
       let z : _≡_ {A = ℕ} 0 11 = sym (n bytes44 planE) ∙ (ap verdict (meets bytes44 planE) ∙ ap (λ (ns : List ℕ). getD ns 0 0) late-44) in

@@ -15,6 +15,7 @@ use Rattle.table.proofs.Refusals.{says-not-zero}
 use Rattle.plan.specs.Plans.{planBytes}
 use Rattle.planner.specs.Answers.{FreeAnswer}
 use Rattle.marked.specs.Marked.{E, marked, AllHold}
+use Rattle.marked.specs.Allows.{FreeAllows, GivenAllows, LeastAllows, CheckAllows, BeginAllows, StepAllows}
 use Rattle.marked.specs.Versions.{Planner, Plans, GoesBy, SoonerOnly, ShortestFirst, LastColumn}
 use Rattle.marked.proofs.Cases.{plan-case}
 use Rattle.marked.proofs.Marked.{marked-hold}
@@ -59,7 +60,7 @@ last-column : (a : Bool) → Never LastColumn 50 (chosen column a ∷ [])
 last-column true w k = let h : _≡_ {A = ℕ} 5 50 = k .1 in omega arith
 last-column false w k = let h : _≡_ {A = ℕ} 0 50 = k .1 in omega arith
 
-module _ (p : Planner) (meets : (s before : List ℕ) → FreeAnswer s before (p .answer s before) (p .area s before)) where
+module _ (p : Planner) (meets : (s before : List ℕ) → FreeAllows s before (p .answer s before) (p .area s before)) where
   pub not-sooner-only : ¬ (GoesBy p SoonerOnly)
   unfolding AllHold marked
   not-sooner-only v =

@@ -20,6 +20,7 @@ use Rattle.planner.specs.declared.Least.{Least}
 use Rattle.planner.specs.Answers as A
 use Rattle.planner.specs.Answers.{PlanAnswer, BestPlan, FreeAnswer, GivenAnswer, LeastAnswer}
 use Rattle.marked.specs.Marked.{E, planE, marked, AllHold}
+use Rattle.marked.specs.Allows.{FreeAllows, GivenAllows, LeastAllows, CheckAllows, BeginAllows, StepAllows}
 use Rattle.marked.specs.Versions.{Planner, Plans, NoneToAll, OneFixedPlan, NothingWritten, LastIsBusy, NotEmpty, TrueFigures, NeverMet, OneDeadline}
 use Rattle.marked.proofs.Examples.{tableE, readE, table6, plan6, table7, tableNo, readNo, given-E, given-6, given-7}
 use Rattle.marked.proofs.Marked.{marked-hold}
@@ -89,7 +90,7 @@ module _ (CanMeet : ℕ → List Job → Type 0) (IsPlan : ℕ → List Job → 
       )
 
 -- The free-order planner.
-module _ (p : Planner) (meets : (s before : List ℕ) → FreeAnswer s before (p .answer s before) (p .area s before)) where
+module _ (p : Planner) (meets : (s before : List ℕ) → FreeAllows s before (p .answer s before) (p .area s before)) where
   free-shown : Shown p
   unfolding AllHold marked
   free-shown = record {
@@ -106,7 +107,7 @@ module _ (p : Planner) (meets : (s before : List ℕ) → FreeAnswer s before (p
   free-figures s before n b l plans = figures-of Met BestPlan p s before n b l plans (meets s before)
 
 -- The given-order planner.
-module _ (p : Planner) (meets : (s before : List ℕ) → GivenAnswer s before (p .answer s before) (p .area s before)) where
+module _ (p : Planner) (meets : (s before : List ℕ) → GivenAllows s before (p .answer s before) (p .area s before)) where
   given-shown : Shown p
   given-shown = record {
     first = given-E blank _ _ blank-room (meets E blank);
@@ -122,7 +123,7 @@ module _ (p : Planner) (meets : (s before : List ℕ) → GivenAnswer s before (
   given-figures s before n b l plans = figures-of MetInOrder BestInOrder p s before n b l plans (meets s before)
 
 -- The least deadline.
-module _ (least : List ℕ → Least) (meets : (s : List ℕ) → LeastAnswer s (least s)) where
+module _ (least : List ℕ → Least) (meets : (s : List ℕ) → LeastAllows s (least s)) where
   third : A.leastSays (least E) ≡ 0 ∷ 45 ∷ []
   unfolding AllHold marked
   third = marked-hold .1 .1 .0 (least E) (meets E)

@@ -1,2 +1,3 @@
+pub mod Allows
 pub mod Marked
 pub mod Versions

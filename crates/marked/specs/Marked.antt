@@ -15,7 +15,7 @@ use Rattle.table.specs.Refusals.{place, refused}
 use Rattle.table.specs.Tables.{readTable}
 use Rattle.planner.specs.declared.Planned.{Planned}
 use Rattle.planner.specs.declared.Least.{Least}
-use Rattle.planner.specs.Answers.{plannedSays, leastSays, Refuses, FreeAnswer, GivenAnswer, LeastAnswer}
+use Rattle.planner.specs.Answers.{plannedSays, leastSays, Refuses}
 use Rattle.frame.specs.declared.Event.{Event}
 use Rattle.frame.specs.declared.Event.the-variants.{SpanEnd, Return}
 use Rattle.frame.specs.declared.Reading.{Reading}
@@ -23,6 +23,7 @@ use Rattle.frame.specs.declared.Reading.the-variants.{Fresh, Late}
 use Rattle.frame.specs.declared.Answer.the-variants.{Read}
 use Rattle.frame.specs.Step.{readOf}
 use Rattle.frame.specs.Run.{begin, event, reached}
+use Rattle.marked.specs.Allows.{FreeAllows, GivenAllows, LeastAllows}
 
 -- what is claimed of a table: its free-order plan with busy total and last finish, no free-order plan, no given-order plan, its least deadline, a refusal in reading,
 -- and what a job reads as after its plan is begun as frame 1 and these events have come
@@ -41,11 +42,11 @@ pub record Case : Type 0 where
 -- what it means for a case to hold: every answer and area that the contract allows is the one claimed
 abbrev pub Claimed : List ℕ → Claim → Type 0
 Claimed s (plan-is p busy last) =
-    (before : List ℕ) (r : Planned) (after : List ℕ) → longestPlan ≤ length before → FreeAnswer s before r after
+    (before : List ℕ) (r : Planned) (after : List ℕ) → longestPlan ≤ length before → FreeAllows s before r after
     → (plannedSays r ≡ 0 ∷ length p ∷ busy ∷ last ∷ []) × (after ≡ p ++ drop (length p) before)
-Claimed s no-plan = (before : List ℕ) (r : Planned) (after : List ℕ) → longestPlan ≤ length before → FreeAnswer s before r after → Refuses None before r after
-Claimed s no-given = (before : List ℕ) (r : Planned) (after : List ℕ) → longestPlan ≤ length before → GivenAnswer s before r after → Refuses None before r after
-Claimed s (least-is d) = (r : Least) → LeastAnswer s r → leastSays r ≡ 0 ∷ d ∷ []
+Claimed s no-plan = (before : List ℕ) (r : Planned) (after : List ℕ) → longestPlan ≤ length before → FreeAllows s before r after → Refuses None before r after
+Claimed s no-given = (before : List ℕ) (r : Planned) (after : List ℕ) → longestPlan ≤ length before → GivenAllows s before r after → Refuses None before r after
+Claimed s (least-is d) = (r : Least) → LeastAllows s r → leastSays r ≡ 0 ∷ d ∷ []
 Claimed s (read-as f) = readTable s ≡ refused f
 Claimed s (after-events p es id r) = readOf (reached (begin s p 1 ∷ map event es)) id ≡ Read r
 

@@ -89,7 +89,7 @@ module _ (s : List ℕ) (at n : ℕ) where
   byte-at i e = sym (getD-drop at s i 0) ∙ ap (λ (m : List ℕ). getD m i 0) e
 
   -- a whole record of a kind is read as that kind's body
-  opens : (k : StepKind) (body : List ℕ) → drop at s ≡ stepByte k ∷ body → stepLength k ≤ length body → recordAt s at n ≡ stepBody s at n k
+  pub opens : (k : StepKind) (body : List ℕ) → drop at s ≡ stepByte k ∷ body → stepLength k ≤ length body → recordAt s at n ≡ stepBody s at n k
   unfolding recordAt
   opens k body e whole =
       let size : length s - at ≡ suc (length body) = sym (length-drop at s) ∙ ap length e in
@@ -97,7 +97,7 @@ module _ (s : List ℕ) (at n : ℕ) where
       opened RecordRefused (stepBody s at n) stepOnly s at {f = form (StepOf k) (stepLength k)}
       (sym (rw kind (kind-form k))) (omega arith) k refl (omega arith)
 
-  step-back : (x : Step) (rest : List ℕ) → Unit {0} → n < mostJobs → drop at s ≡ stepBytes x ++ rest → planEntry s at n ≡ one x (at + 2)
+  pub step-back : (x : Step) (rest : List ℕ) → Unit {0} → n < mostJobs → drop at s ≡ stepBytes x ++ rest → planEntry s at n ≡ one x (at + 2)
   step-back x rest u few e = go (x .away) e
     where
       go : (away : Bool) → drop at s ≡ cond away 0x21 0x20 ∷ x .id ∷ rest → planEntry s at n ≡ one (record { id = x .id; away = away }) (at + 2)

@@ -1,8 +1,27 @@
 -- Document 01, 'What the contracts have to settle': "that two answers allowed by it coincide is itself proved".
--- Assumes nothing.
+-- The contract is the function's own, as Rattle makes it of the source: `ended` is its signature, `Reads.Learnt` what its `ensures` tells a caller, `Reads.Pre` what its `requires` tells. Assumes nothing.
 use mathlib.Core.Path.{_≡_}
+use contract.Lifetimes.{Lfts}
+use denote.Triple.Entry.{Args, Res}
+use denote.Triple.Clauses.{Ended, Lasts, AtExit, atExit}
 
--- A contract says for each input which outcomes it allows: the answer, with the lent memory afterwards where there is any. It settles them if two that it allows coincide.
-module _ {I O : Type 0} where
-  abbrev pub Settled : (I → O → Type 0) → Type 0
-  Settled Allows = (i : I) (a b : O) → Allows i a → Allows i b → a ≡ b
+module _ (T : Ended) where
+  -- what is asked of a call's inputs; what is told of its inputs, its answer and its parameters at exit
+  abbrev pub Asks : Type 1
+  Asks = (κs : Lfts (T .signature .lifetimes)) → Args (T .signature) κs → Type 0
+
+  abbrev pub Tells : Type 1
+  Tells = (κs : Lfts (T .signature .lifetimes)) → Args (T .signature) κs → Res (T .signature) κs → AtExit T κs → Type 0
+
+  -- For the inputs i, two outcomes that are allowed coincide: the answers r and s, and what is left in the memory lent as `&mut`, m and n.
+  abbrev pub OneOutcome : Tells → Asks
+  OneOutcome Learnt κs i =
+      (r s : Res (T .signature) κs) (m n : Lasts T κs i)
+      → Learnt κs i r (atExit T κs i m) → Learnt κs i s (atExit T κs i n) → (r ≡ s) × (m ≡ n)
+
+  -- so for all inputs; so for those that the function may be called with
+  abbrev pub Settles : Tells → Type 0
+  Settles Learnt = (κs : Lfts (T .signature .lifetimes)) (i : Args (T .signature) κs) → OneOutcome Learnt κs i
+
+  abbrev pub SettlesAsked : Asks → Tells → Type 0
+  SettlesAsked Pre Learnt = (κs : Lfts (T .signature .lifetimes)) (i : Args (T .signature) κs) → Pre κs i → OneOutcome Learnt κs i

@@ -71,7 +71,7 @@ module _ {A : Type 0} where
   all-seam P [] x ys h = h .0
   all-seam P (y ∷ xs) x ys h = all-seam P xs x ys (h .1)
 
-  pairwise-seam : (R : A → A → Type 0) (xs : List A) (x : A) (ys : List A) → Pairwise R (xs ++ (x ∷ ys)) → All (λ (y : A). R y x) xs
+  pub pairwise-seam : (R : A → A → Type 0) (xs : List A) (x : A) (ys : List A) → Pairwise R (xs ++ (x ∷ ys)) → All (λ (y : A). R y x) xs
   pairwise-seam R [] x ys h = tt
   pairwise-seam R (y ∷ xs) x ys h = (all-seam (R y) xs x ys (h .0), pairwise-seam R xs x ys (h .1))
 
@@ -85,19 +85,19 @@ module _ {A : Type 0} (idOf : A → ℕ) where
   map-more (y ∷ xs) x = ap (λ (l : List ℕ). idOf y ∷ l) (map-more xs x)
 
   -- an id that is not used differs from each, and the other way round
-  unused-differs : (xs : List A) (id : ℕ) → used (map idOf xs) id ≡ false → All (λ (x : A). ¬ (idOf x ≡ id)) xs
+  pub unused-differs : (xs : List A) (id : ℕ) → used (map idOf xs) id ≡ false → All (λ (x : A). ¬ (idOf x ≡ id)) xs
   unfolding used
   unused-differs [] id h = tt
   unused-differs (x ∷ xs) id h = let n = neither (eqb (idOf x) id) _ h in (eqb-false (idOf x) id (n .0), unused-differs xs id (n .1))
 
-  differs-unused : (xs : List A) (id : ℕ) → All (λ (x : A). ¬ (idOf x ≡ id)) xs → used (map idOf xs) id ≡ false
+  pub differs-unused : (xs : List A) (id : ℕ) → All (λ (x : A). ¬ (idOf x ≡ id)) xs → used (map idOf xs) id ≡ false
   unfolding used
   differs-unused [] id h = refl
   differs-unused (x ∷ xs) id h = rw (ne-eqb (idOf x) id (h .0), differs-unused xs id (h .1))
 
 module _ {A : Type 0} (idOf : A → ℕ) (entryAt : ℕ → ℕ → Entry A) (size : ℕ) where
   -- one record more
-  list-step :
+  pub list-step :
       (xs : List A) (at : ℕ) → length xs ≤ mostJobs →
       listFrom idOf entryAt size (suc mostJobs - length xs) xs at ≡
       follow idOf entryAt size (listFrom idOf entryAt size (mostJobs - length xs)) xs at (entryAt at (length xs))

@@ -36,24 +36,24 @@ module _ (s : List ℕ) (at : ℕ) (l : List ℕ) (from : drop at s ≡ l) where
   long : length s - at ≡ length l
   long = sym (length-drop at s) ∙ ap length from
 
-  word : (i : ℕ) → wordAt s (at + i) ≡ wordAt l i
+  pub word : (i : ℕ) → wordAt s (at + i) ≡ wordAt l i
   word i =
       let next : at + i + 1 ≡ at + (i + 1) = omega arith in
       rw (peek i, next, peek (i + 1))
 
   -- a whole row is read
-  row-open : (n : ℕ) (k : RowKind) → getD l 0 0 ≡ rowByte k → 1 + rowLength k ≤ length l → rowEntry s at n ≡ jobEntry (rowBody s at n k)
+  pub row-open : (n : ℕ) (k : RowKind) → getD l 0 0 ≡ rowByte k → 1 + rowLength k ≤ length l → rowEntry s at n ≡ jobEntry (rowBody s at n k)
   unfolding jobAt
   row-open n k b h =
       ap jobEntry
       (opened JobRefused (rowBody s at n) rowOnly s at (sym (ap formOf (first ∙ b) ∙ row-form k)) (omega (arith, long)) k refl (omega (arith, long)))
 
 -- the two bytes of a number make it again
-word-whole : (n : ℕ) → n % 256 + 256 * (n / 256) ≡ n
+pub word-whole : (n : ℕ) → n % 256 + 256 * (n / 256) ≡ n
 word-whole n = omega arith
 
 -- the bytes of a job are read as the job, and the end byte as the end
-job-back :
+pub job-back :
     (s : List ℕ) (at n : ℕ) (rest : List ℕ) (id C : ℕ) (d : Sending) →
     let j : Job = record { id = id; local = C; sending = d } in
     drop at s ≡ sendingBytes id C d ++ rest → TimesOk j → n < mostJobs → rowEntry s at n ≡ one j (at + length (sendingBytes id C d))

@@ -29,7 +29,7 @@ use Rattle.table.specs.Tables.{timeOk, deadlineAt, frameAt, hereAt, eith
 use Rattle.table.proofs.Records.{rowByte, rowLength, cond-all, frame-kind, row-kind, is-frame, is-row, judged-all}
 use Rattle.table.proofs.Listed.{padded-more}
 
-both : (a b : Bool) → (a && b) ≡ true → (a ≡ true) × (b ≡ true)
+pub both : (a b : Bool) → (a && b) ≡ true → (a ≡ true) × (b ≡ true)
 both true b e = (refl, e)
 both false b e = (cc, cc)
 

@@ -18,7 +18,7 @@ use Rattle.table.proofs.Tables.{rowEntry, RowIs, row-here, row-either, 
 use Rattle.table.proofs.Accepted.{accepted-read}
 
 -- the two bytes of a two-byte number
-word-parts : (a b : ℕ) → a < 256 → wordBytes (a + 256 * b) ≡ a ∷ b ∷ []
+pub word-parts : (a b : ℕ) → a < 256 → wordBytes (a + 256 * b) ≡ a ∷ b ∷ []
 word-parts a b h =
     let low : (a + 256 * b) % 256 ≡ a = omega arith in
     let high : (a + 256 * b) / 256 ≡ b = omega arith in

@@ -1,0 +1,240 @@
+-- What tables and plans have in common: every file is a good list with its end record or has a fault (`listed-or-fault`, in which no reader stands),
+-- and a file with a fault is refused for it (`fault-refused`), where the reader of one record does so. Assumes nothing.
+use Prim.Native.Nat.{ℕ, zero, suc, _+_, _-_, _≤_, _<_}
+use native.Mathlib.Omega.{arith}
+use mathlib.Core.Path.{_≡_, refl, sym, ap, subst, _∙_}
+use mathlib.Core.Logic.{_⊎_, inl, inr, _↔_}
+use mathlib.Core.Bool.{Bool, true, false}
+use mathlib.Core.List.{List, [], _∷_, _++_, map, flatMap, List·Memᴰ, List·Memᴰ·head, List·Memᴰ·tail, append-nil, append-assoc}
+use mathlib.Core.Option.{Option, none, some}
+use lib.ListN.{length, getD, drop, length-append, length-drop}
+use lib.Seq.{append-snoc, getD-drop, drop-drop, drop-at}
+use lib.Dec.{eqb, ltb}
+use borrow.Author.Tests.{eqb-true, eqb-false, ltb-true, ltb-false, lt-leb}
+use native.Mathlib.Nat.{add-zero}
+use Rattle.model.specs.Lists.{All}
+use Rattle.model.proofs.Lists.{all-map, all-append, all-of-map, map-all, pairwise-append}
+use Rattle.table.specs.declared.refusal.Refusal.{Refusal}
+use Rattle.table.specs.declared.refusal.Refusal.the-variants.{Range, Many}
+use Rattle.table.specs.declared.kind.Meaning.{Meaning}
+use Rattle.table.specs.Limits.{mostJobs}
+use Rattle.table.specs.Refusals.{place, Outcome, refused}
+use Rattle.table.specs.Records.{formOf, judged, Entry, one, last, bad, used, listFrom}
+use Rattle.table.proofs.Records as records
+use Rattle.table.proofs.Listed.{Distinct, list-step, pairwise-seam, unused-differs, differs-unused}
+use Rattle.judge.proofs.Jobs.{member-all}
+use Rattle.faults.specs.Faults.{Unread, no-byte, not-allowed, cut, Faulty, unread, many, range, twice, after, GoodList, ListFault, fault}
+
+-- a number is not the first part of any line, or of one
+known : (kinds : List (ℕ × ℕ)) (k : ℕ) → All (λ (r : ℕ × ℕ). ¬ (k ≡ r .0)) kinds ⊎ ((n : ℕ) × List·Memᴰ (k, n) kinds)
+known [] k = inl tt
+known (r ∷ kinds) k = step (eqb k (r .0)) refl (known kinds k)
+  where
+    step :
+        (b : Bool) → eqb k (r .0) ≡ b → All (λ (q : ℕ × ℕ). ¬ (k ≡ q .0)) kinds ⊎ ((n : ℕ) × List·Memᴰ (k, n) kinds) →
+        All (λ (q : ℕ × ℕ). ¬ (k ≡ q .0)) (r ∷ kinds) ⊎ ((n : ℕ) × List·Memᴰ (k, n) (r ∷ kinds))
+    step true e o = inr (r .1, List·Memᴰ·head (λ i. (eqb-true k (r .0) e i, r .1)))
+    step false e (inl h) = inl (eqb-false k (r .0) e, h)
+    step false e (inr h) = inr (h .0, List·Memᴰ·tail (h .1))
+
+-- an id is among those before, or differs from each
+seen : (ids : List ℕ) (id : ℕ) → List·Memᴰ id ids ⊎ All (λ (i : ℕ). ¬ (i ≡ id)) ids
+seen [] id = inr tt
+seen (i ∷ ids) id = step (eqb i id) refl (seen ids id)
+  where
+    step :
+        (b : Bool) → eqb i id ≡ b → List·Memᴰ id ids ⊎ All (λ (k : ℕ). ¬ (k ≡ id)) ids →
+        List·Memᴰ id (i ∷ ids) ⊎ All (λ (k : ℕ). ¬ (k ≡ id)) (i ∷ ids)
+    step true e o = inl (List·Memᴰ·head (sym (eqb-true i id e)))
+    step false e (inl m) = inl (List·Memᴰ·tail m)
+    step false e (inr h) = inr (eqb-false i id e, h)
+
+-- a record whose kind is allowed and whose body is all there
+pub record Whole (kinds : List (ℕ × ℕ)) (rest : List ℕ) : Type 0 where
+  pub kind : ℕ
+  pub body : ℕ
+  pub more : List ℕ
+  pub is : rest ≡ kind ∷ more
+  pub allowed : List·Memᴰ (kind, body) kinds
+  pub there : body ≤ length more
+
+pub unread-or-whole : (kinds : List (ℕ × ℕ)) (at : ℕ) (rest : List ℕ) → ((f : Refusal) × Unread kinds at rest f) ⊎ Whole kinds rest
+unread-or-whole kinds at [] = inl (_, no-byte)
+unread-or-whole kinds at (k ∷ more) = step (known kinds k)
+  where
+    fits : (n : ℕ) → List·Memᴰ (k, n) kinds → (b : Bool) → ltb (length more) n ≡ b → ((f : Refusal) × Unread kinds at (k ∷ more) f) ⊎ Whole kinds (k ∷ more)
+    fits n m true e = inl (_, cut m (ltb-true _ _ e))
+    fits n m false e = inr (record { kind = k; body = n; more = more; is = refl; allowed = m; there = ltb-false _ _ e })
+
+    step :
+        All (λ (q : ℕ × ℕ). ¬ (k ≡ q .0)) kinds ⊎ ((n : ℕ) × List·Memᴰ (k, n) kinds) →
+        ((f : Refusal) × Unread kinds at (k ∷ more) f) ⊎ Whole kinds (k ∷ more)
+    step (inl h) = inl (_, not-allowed h)
+    step (inr h) = fits (h .0) (h .1) (ltb (length more) (h .0)) refl
+
+-- the bytes of a list, and of one more
+module _ {A : Type 0} (bytesOf : A → List ℕ) where
+  flat-more : (xs : List A) (x : A) (rest : List ℕ) → flatMap bytesOf (xs ++ (x ∷ [])) ++ rest ≡ flatMap bytesOf xs ++ (bytesOf x ++ rest)
+  unfolding flatMap
+  flat-more [] x rest = simp append-nil
+  flat-more (y ∷ xs) x rest = simp (append-assoc, flat-more xs x rest)
+
+-- Every file is told. `Byte` is what is known of each byte; a whole record is one that is listed, or the end.
+module _
+    {A : Type 0} (idOf : A → ℕ) (bytesOf : A → List ℕ) (InRange : A → Type 0) (kinds : List (ℕ × ℕ)) (end : ℕ) (Byte : ℕ → Type 0)
+    (in-range : (x : A) → InRange x ⊎ ¬ InRange x)
+    (record-is :
+    (rest : List ℕ) → Whole kinds rest → All Byte rest →
+    ((x : A) × (more : List ℕ) × (rest ≡ bytesOf x ++ more) × All Byte more) ⊎ ((more : List ℕ) × (rest ≡ end ∷ more)))
+    (first : List ℕ) where
+  abbrev Good : List A → Type 0
+  Good = GoodList idOf InRange
+
+  -- the bytes of a good list and its end record, or a fault
+  abbrev pub Told : List ℕ → Type 0
+  Told s = ((xs : List A) × Good xs × (s ≡ first ++ flatMap bytesOf xs ++ (end ∷ []))) ⊎ ((f : Refusal) × ListFault idOf bytesOf InRange kinds end first s f)
+
+  good-more : (xs : List A) (x : A) → Good xs → length xs < mostJobs → InRange x → All (λ (i : ℕ). ¬ (i ≡ idOf x)) (map idOf xs) → Good (xs ++ (x ∷ []))
+  good-more xs x good room ok new =
+      record {
+        few = omega (arith, length-append xs (x ∷ []));
+        distinct = pairwise-append _ xs (x ∷ []) (good .distinct) (tt, tt) (all-map (λ y d. (d, tt)) xs (all-of-map idOf _ xs new));
+        each = all-append InRange xs (x ∷ []) (good .each) (ok, tt);
+      }
+
+  -- one record, where `on` tells what follows one that is listed
+  module _
+      (xs : List A) (good : Good xs)
+      (on : (x : A) (more : List ℕ) → length xs < mostJobs → Good (xs ++ (x ∷ [])) → All Byte more → Told (first ++ flatMap bytesOf (xs ++ (x ∷ [])) ++ more)) where
+    abbrev at : ℕ
+    at = length (first ++ flatMap bytesOf xs)
+
+    faulty : {rest : List ℕ} {f : Refusal} → Faulty idOf bytesOf InRange kinds end xs at rest f → Told (first ++ flatMap bytesOf xs ++ rest)
+    faulty {rest} {f} y = inr (f, fault xs rest good y)
+
+    told-listed : (x : A) (more : List ℕ) → All Byte more → Told (first ++ flatMap bytesOf xs ++ (bytesOf x ++ more))
+    told-listed x more bytes = room (ltb (length xs) mostJobs) refl
+      where
+        new : length xs < mostJobs → InRange x → List·Memᴰ (idOf x) (map idOf xs) ⊎ All (λ (i : ℕ). ¬ (i ≡ idOf x)) (map idOf xs) → Told (first ++ flatMap bytesOf xs ++ (bytesOf x ++ more))
+        new h ok (inl m) = faulty (twice x more h ok m)
+        new h ok (inr d) =
+            subst Told (append-assoc first (flatMap bytesOf (xs ++ (x ∷ []))) more ∙ (ap (λ (l : List ℕ). first ++ l) (flat-more bytesOf xs x more) ∙ sym (append-assoc first (flatMap bytesOf xs) (bytesOf x ++ more))))
+            (on x more h (good-more xs x good h ok d) bytes)
+
+        ranged : length xs < mostJobs → InRange x ⊎ ¬ InRange x → Told (first ++ flatMap bytesOf xs ++ (bytesOf x ++ more))
+        ranged h (inl ok) = new h ok (seen (map idOf xs) (idOf x))
+        ranged h (inr out) = faulty (range x more h out)
+
+        room : (b : Bool) → ltb (length xs) mostJobs ≡ b → Told (first ++ flatMap bytesOf xs ++ (bytesOf x ++ more))
+        room true e = ranged (ltb-true _ _ e) (in-range x)
+        room false e = faulty (many x more (omega (arith, ltb-false (length xs) mostJobs e, good .few)))
+
+    told-end : (more : List ℕ) → Told (first ++ flatMap bytesOf xs ++ (end ∷ more))
+    told-end [] = inl (xs, good, refl)
+    told-end (b ∷ more) = faulty after
+
+    told-one : (rest : List ℕ) → All Byte rest → Told (first ++ flatMap bytesOf xs ++ rest)
+    told-one rest bytes = step (unread-or-whole kinds at rest)
+      where
+        whole : ((x : A) × (more : List ℕ) × (rest ≡ bytesOf x ++ more) × All Byte more) ⊎ ((more : List ℕ) × (rest ≡ end ∷ more)) → Told (first ++ flatMap bytesOf xs ++ rest)
+        whole (inl w) = rw (w .2) (told-listed (w .0) (w .1) (w .3))
+        whole (inr w) = rw (w .1) (told-end (w .0))
+
+        step : ((f : Refusal) × Unread kinds at rest f) ⊎ Whole kinds rest → Told (first ++ flatMap bytesOf xs ++ rest)
+        step (inl u) = faulty (unread (u .1))
+        step (inr w) = whole (record-is rest w bytes)
+
+  told-from : (left : ℕ) (xs : List A) (rest : List ℕ) → left + length xs ≡ mostJobs → Good xs → All Byte rest → Told (first ++ flatMap bytesOf xs ++ rest)
+  told-from zero xs rest count good bytes = told-one xs good (λ x more room g b. absurd (omega arith)) rest bytes
+  told-from (suc left) xs rest count good bytes =
+      told-one xs good (λ x more room g b. told-from left (xs ++ (x ∷ [])) more (omega (arith, length-append xs (x ∷ []))) g b) rest bytes
+
+  pub listed-or-fault : (rest : List ℕ) → All Byte rest → Told (first ++ rest)
+  unfolding flatMap
+  listed-or-fault rest bytes = rw append-nil at (told-from mostJobs [] rest (omega arith) (record { few = omega arith; distinct = tt; each = tt }) bytes)
+
+-- A record that is not read is refused by what is judged of every record, where the kinds that may stand there are these.
+module _
+    {K R : Type 0} (refuse : Refusal → R) (read : K → R) (may : Meaning → Option K) (kinds : List (ℕ × ℕ))
+    (others : (k : ℕ) → All (λ (r : ℕ × ℕ). ¬ (k ≡ r .0)) kinds → may (formOf k .meaning) ≡ none)
+    (these : All (λ (r : ℕ × ℕ). (j : K) × (may (formOf (r .0) .meaning) ≡ some j) × (formOf (r .0) .body ≡ r .1)) kinds)
+    (s : List ℕ) (at : ℕ) where
+  -- the byte at the place, and how many follow
+  first-byte : {k : ℕ} {more : List ℕ} → drop at s ≡ k ∷ more → (getD s at 0 ≡ k) × (length s - at ≡ suc (length more))
+  first-byte {k} {more} e = (rw add-zero at (sym (getD-drop at s 0 0) ∙ ap (λ (l : List ℕ). getD l 0 0) e), sym (length-drop at s) ∙ ap length e)
+
+  pub unread-refused : {rest : List ℕ} {f : Refusal} → Unread kinds at rest f → drop at s ≡ rest → judged refuse read may s at ≡ refuse f
+  unread-refused no-byte e =
+      let none-left : length s - at ≡ 0 = sym (length-drop at s) ∙ ap length e in
+      records.no-byte refuse read may s at (omega arith)
+  unread-refused (not-allowed {k} h) e =
+      let b = first-byte e in
+      records.not-allowed refuse read may s at refl (omega (arith, b .1)) (rw (b .0) (others k h))
+  unread-refused (cut {k} {n} {more} m h) e =
+      let b = first-byte e in
+      let known = member-all _ these m in
+      records.cut refuse read may s at {f = formOf k} (ap formOf (sym (b .0))) (omega (arith, b .1)) (known .0) (known .1) (omega (arith, b .1, known .2))
+
+-- an id among those before is used
+used-member : {A : Type 0} (idOf : A → ℕ) (xs : List A) (id : ℕ) → List·Memᴰ id (map idOf xs) → used (map idOf xs) id ≡ true
+used-member idOf xs id m = step (used (map idOf xs) id) refl
+  where
+    step : (b : Bool) → used (map idOf xs) id ≡ b → b ≡ true
+    step true e = refl
+    step false e = absurd (member-all (λ (i : ℕ). ¬ (i ≡ id)) (map-all idOf _ xs (unused-differs idOf xs id e)) m refl)
+
+-- A list with a fault is refused for it, where the reader of one record refuses for what is wrong with the record, and reads what is not.
+module _
+    {A : Type 0} (idOf : A → ℕ) (bytesOf : A → List ℕ) (InRange : A → Type 0) (kinds : List (ℕ × ℕ)) (end : ℕ) (s : List ℕ) (entryAt : ℕ → ℕ → Entry A)
+    (is-unread : (at n : ℕ) (rest : List ℕ) (f : Refusal) → Unread kinds at rest f → drop at s ≡ rest → entryAt at n ≡ bad f)
+    (is-many : (at n : ℕ) (x : A) (more : List ℕ) → drop at s ≡ bytesOf x ++ more → mostJobs ≤ n → entryAt at n ≡ bad (Many (place at)))
+    (is-range : (at n : ℕ) (x : A) (more : List ℕ) → drop at s ≡ bytesOf x ++ more → n < mostJobs → ¬ InRange x → entryAt at n ≡ bad (Range (place at)))
+    (is-one : (at n : ℕ) (x : A) (more : List ℕ) → drop at s ≡ bytesOf x ++ more → n < mostJobs → InRange x → entryAt at n ≡ one x (at + length (bytesOf x)))
+    (is-end : (at n : ℕ) (more : List ℕ) → drop at s ≡ end ∷ more → entryAt at n ≡ last (at + 1)) where
+  abbrev from : List A → ℕ → Outcome (List A)
+  from xs at = listFrom idOf entryAt (length s) (suc mostJobs - length xs) xs at
+
+  faulty-refused : (xs : List A) (at : ℕ) {rest : List ℕ} {f : Refusal} → length xs ≤ mostJobs → Faulty idOf bytesOf InRange kinds end xs at rest f → drop at s ≡ rest → from xs at ≡ refused f
+  faulty-refused xs at {rest} {f} few (unread u) e = list-step idOf entryAt (length s) xs at few ∙ rw (is-unread at (length xs) rest f u e)
+  faulty-refused xs at few (many x more h) e = list-step idOf entryAt (length s) xs at few ∙ rw (is-many at (length xs) x more e (omega arith))
+  faulty-refused xs at few (range x more h out) e = list-step idOf entryAt (length s) xs at few ∙ rw (is-range at (length xs) x more e h out)
+  faulty-refused xs at few (twice x more h ok m) e = list-step idOf entryAt (length s) xs at few ∙ rw (is-one at (length xs) x more e h ok, used-member idOf xs (idOf x) m)
+  faulty-refused xs at few (after {b} {more}) e =
+      let long : length s - at ≡ suc (suc (length more)) = sym (length-drop at s) ∙ ap length e in
+      list-step idOf entryAt (length s) xs at few ∙ rw (is-end at (length xs) (b ∷ more) e, lt-leb (length s) (at + 1) (omega arith))
+
+  -- what is good before it is read
+  good-read :
+      (ys xs : List A) (at : ℕ) (rest : List ℕ) → length xs + length ys ≤ mostJobs → Distinct idOf (xs ++ ys) → All InRange ys →
+      drop at s ≡ flatMap bytesOf ys ++ rest → from xs at ≡ from (xs ++ ys) (at + length (flatMap bytesOf ys))
+  unfolding flatMap
+  good-read [] xs at rest few distinct good e = rw (append-nil, add-zero)
+  good-read (y ∷ ys) xs at rest few distinct good e =
+      let p = at + length (bytesOf y) in
+      let more : length (xs ++ (y ∷ [])) ≡ length xs + 1 = length-append xs (y ∷ []) in
+      let left : mostJobs - length xs ≡ suc mostJobs - length (xs ++ (y ∷ [])) = omega arith in
+      let once : used (map idOf xs) (idOf y) ≡ false = differs-unused idOf xs (idOf y) (pairwise-seam _ xs y ys distinct) in
+      let here : drop at s ≡ bytesOf y ++ (flatMap bytesOf ys ++ rest) = e ∙ append-assoc (bytesOf y) (flatMap bytesOf ys) rest in
+      let then : drop p s ≡ flatMap bytesOf ys ++ rest =
+      sym (drop-drop (length (bytesOf y)) at s) ∙ (ap (drop (length (bytesOf y))) here ∙ drop-at (bytesOf y) (flatMap bytesOf ys ++ rest) (length (bytesOf y)) refl) in
+      let at-end : p + length (flatMap bytesOf ys) ≡ at + length (bytesOf y ++ flatMap bytesOf ys) = omega (arith, length-append (bytesOf y) (flatMap bytesOf ys)) in
+      list-step idOf entryAt (length s) xs at (omega arith) ∙
+      rw (is-one at (length xs) y _ here (omega arith) (good .0), once, left)
+      (good-read ys (xs ++ (y ∷ [])) p rest (omega arith) (rw append-snoc distinct) (good .1) then ∙ rw (append-snoc, at-end))
+
+  pub fault-refused : {first u : List ℕ} {f : Refusal} → ListFault idOf bytesOf InRange kinds end first u f → u ≡ s → listFrom idOf entryAt (length s) (suc mostJobs) [] (length first) ≡ refused f
+  fault-refused {first} (fault xs rest good y) e =
+      let begun : drop (length first) s ≡ flatMap bytesOf xs ++ rest =
+      ap (drop (length first)) (sym e ∙ append-assoc first (flatMap bytesOf xs) rest) ∙ drop-at first (flatMap bytesOf xs ++ rest) (length first) refl in
+      let there : drop (length (first ++ flatMap bytesOf xs)) s ≡ rest =
+      ap (drop (length (first ++ flatMap bytesOf xs))) (sym e) ∙ drop-at (first ++ flatMap bytesOf xs) rest _ refl in
+      good-read xs [] (length first) rest (omega (arith, good .few)) (good .distinct) (good .each) begun ∙
+      rw (← length-append) (faulty-refused xs (length (first ++ flatMap bytesOf xs)) (good .few) y there)
+
+-- What is so of some answer, and of no other than r, is so of r alone; so it is so of exactly one.
+module _ {T : Type 0} (Is : T → Type 0) (r : T) (there : (o : T) × Is o) (only : (o : T) → Is o → r ≡ o) where
+  pub exactly : (o : T) → (r ≡ o) ↔ Is o
+  exactly o = ((λ e. subst Is (sym (only (there .0) (there .1)) ∙ e) (there .1)), only o)
+
+  pub exactly-one : (o : T) × Is o × ((p : T) → Is p → o ≡ p)
+  exactly-one = (there .0, there .1, (λ p is. sym (only (there .0) (there .1)) ∙ only p is))

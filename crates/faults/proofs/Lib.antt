@@ -1,0 +1,5 @@
+pub mod Files
+pub mod Plans
+pub mod Tables
+pub mod Numbers
+pub mod Checks

@@ -1,0 +1,4 @@
+pub mod History
+pub mod Replies
+pub mod Fresh
+pub mod Turns
