@@ -25,3 +25,7 @@ module _ (T : Ended) where
 
   abbrev pub SettlesAsked : Asks → Tells → Type 0
   SettlesAsked Pre Learnt = (κs : Lfts (T .signature .lifetimes)) (i : Args (T .signature) κs) → Pre κs i → OneOutcome Learnt κs i
+
+  -- For the inputs i the contract rules the answer r out, whatever is left in lent memory.
+  abbrev pub RulesOut : Tells → (κs : Lfts (T .signature .lifetimes)) → Args (T .signature) κs → Res (T .signature) κs → Type 0
+  RulesOut Learnt κs i r = (m : Lasts T κs i) → ¬ (Learnt κs i r (atExit T κs i m))
