@@ -1,16 +1,24 @@
 #!/usr/bin/env python3
 """Holds the documents to the code: python3 tools/check_docs.py
 
-Every public function stands in docs/PROMISES.md and has its line in crates/settled/proofs/Functions.antt; every theorem and definition that a
-document names stands in the file that it names; every must-fail edit that is named exists; every link between files leads somewhere.
+- Every public function stands in docs/FUNCTIONS.md by crate, type and name, has its line in crate `settled` over its own contract, and is listed
+  exactly where it has a `requires` or no `ensures`.
+- Every theorem, definition and function that a document names is declared in the file that it names; every edit and every link is there.
+- The definitions of docs/TRUSTED.md, with their lines, are exactly what the statements named there rest on.
+- A refusal's number, word and sentence are the same wherever they stand.
 """
 import glob
 import os
 import re
 import sys
 
-TOP = os.path.join(os.path.dirname(os.path.abspath(__file__)), '..')
-DOCUMENTS = ['README.md', 'tables/README.md', 'peer/README.md'] + sorted(glob.glob('docs/**/*.md', root_dir=TOP, recursive=True))
+from refusal_words import refusal_troubles
+from sources import Tree, Words
+
+TOP = os.path.abspath(os.path.join(os.path.dirname(os.path.abspath(__file__)), '..'))
+DOCUMENTS = sorted(glob.glob('*.md', root_dir=TOP) + glob.glob('*/README.md', root_dir=TOP) + glob.glob('docs/**/*.md', root_dir=TOP, recursive=True))
+FUNCTIONS = 'docs/FUNCTIONS.md'
+TRUSTED = 'docs/TRUSTED.md'
 troubles = []
 
 
@@ -19,37 +27,81 @@ def text(path):
         return f.read()
 
 
-def public_functions():
-    """Those of the libraries; in a program `pub` only reaches its own files."""
-    for path in sorted(glob.glob('crates/*/src/*.rt', root_dir=TOP)):
-        if os.path.exists(os.path.join(TOP, os.path.dirname(path), 'main.rt')):
-            continue
-        yield from re.findall(r'^\s*pub (?:extern "C" )?fn (\w+)', text(path), re.M)
+def section(document, heading):
+    """The part of a document under a heading."""
+    parts = re.split(r'^## ', text(document), flags=re.M)
+    return next((part for part in parts if part.split('\n', 1)[0].strip() == heading), '')
 
 
-def check_functions():
-    promises, settled = text('docs/PROMISES.md'), text('crates/settled/proofs/Functions.antt')
-    for name in public_functions():
-        if not re.search(r'`(\w+::)*' + name + '`', promises):
-            troubles.append(f'docs/PROMISES.md does not name the public function {name}')
-        if not re.search(r'^pub (\w+-)?' + name.replace('_', '-') + ' :', settled, re.M):
-            troubles.append(f'Functions.antt has no line for the public function {name}')
+def compare(what, wanted, found):
+    """Two sets that must be equal."""
+    troubles.extend(f'{what} lacks {name}' for name in sorted(wanted - found))
+    troubles.extend(f'{what} has {name}, which should not be there' for name in sorted(found - wanted))
 
 
-def check_rows(document):
-    """A row of three columns: what is promised, names, and the files that have them."""
-    for row in re.findall(r'^\|(.*)\|$', text(document), re.M):
-        cells = row.split('|')
-        paths = re.findall(r'[\w/]+\.(?:antt|rt)\b', cells[-1]) if len(cells) == 3 else []
-        if not paths:
-            continue
+def path_of(function):
+    return function.key.replace('.', '::')
+
+
+def check_functions(tree):
+    """Each public function of a library, by crate, type and name."""
+    public = [f for f in tree.functions if f.public and not f.program]
+    crates = sorted({f.crate for f in public})
+    named = {name for crate in crates for name in re.findall(r'`([\w]+(?:::\w+)+)`', ''.join(rows(section(FUNCTIONS, crate), 0)))}
+    compare(FUNCTIONS, {path_of(f) for f in public}, named)
+    settled = text('crates/settled/proofs/Functions.antt')
+    for f in public:
+        crate, rest = f.key.split('.', 1)
+        if not re.search(rf'(?<![\w.-]){crate.replace("_", "[_-]")}\.{re.escape(rest)}\.ended\b', settled):
+            troubles.append(f'Functions.antt of crate settled has no line over the contract of {path_of(f)}')
+    asking = set(re.findall(r'`([\w:]+)`', ''.join(rows(section(FUNCTIONS, 'Functions that ask something of their caller'), 0))))
+    compare(f'{FUNCTIONS}, asking', {path_of(f) for f in public if ' requires ' in f.contract}, asking)
+    silent = {(row[0].strip(), name) for row in cells(section(FUNCTIONS, 'Functions with no `ensures`')) for name in re.findall(r'`(\w+)`', row[1])}
+    compare(f'{FUNCTIONS}, no ensures', {(f.path, f.key.split('.')[-1]) for f in tree.functions if ' ensures ' not in f.contract}, silent)
+
+
+def cells(part):
+    """The rows of a part's tables, without their heads."""
+    found = [row.split('|') for row in re.findall(r'^\|(.*)\|$', part, re.M)]
+    return [row for row in found if not set(''.join(row)) <= set('-: ')]
+
+
+def rows(part, column):
+    return [row[column] for row in cells(part)]
+
+
+def declares(name, sources):
+    """`pub NAME :`, a public type or a public function; inside a type, a field."""
+    word = re.escape(name)
+    antt = rf'^\s*(?:(?:abbrev|unfoldable) )?pub (?:(?:data|record) )?{word}(?: |$)'
+    rattle = rf'^\s*pub (?:extern "C" )?(?:fn|struct|enum|const) {word}\b'
+    return re.search(antt, sources, re.M) or re.search(rattle, sources, re.M)
+
+
+def check_names(document, tree):
+    """A row whose last column names files: every name in its second column is declared in one of them."""
+    for row in cells(text(document)):
+        paths = re.findall(r'[\w/+-]+\.(?:antt|rt)\b', row[-1]) if len(row) == 3 else []
         paths = ['crates/' + path.removeprefix('crates/') for path in paths]
-        missing = [path for path in paths if not os.path.exists(os.path.join(TOP, path))]
+        missing = [path for path in paths if path not in tree.texts]
         troubles.extend(f'{document}: there is no {path}' for path in missing)
-        sources = ''.join(text(path) for path in paths if path not in missing)
-        for name in re.findall(r'`([\w?-]+)`', cells[1]):
-            if not re.search(r'(?<![\w-])' + re.escape(name) + r'(?![\w-])', sources):
-                troubles.append(f'{document}: {name} does not stand in {", ".join(paths)}')
+        sources = '\n'.join(tree.texts[path] for path in paths if path not in missing)
+        for name in re.findall(r'`([\w?-]+)`', row[1]) if sources else []:
+            if not declares(name, sources) and document != FUNCTIONS:
+                troubles.append(f'{document}: {name} is not declared in {", ".join(paths)}')
+
+
+def check_wrong_answers(tree):
+    """The statements that FUNCTIONS.md names for wrong answers."""
+    wrong = {d.name for d in tree.theorems if d.path == 'crates/settled/proofs/Wrong.antt'}
+    for name in re.findall(r'`wrong\.([\w-]+)`', text(FUNCTIONS)):
+        if name not in wrong:
+            troubles.append(f'{FUNCTIONS}: Wrong.antt has no {name}')
+    every = {d.name for d in tree.theorems}
+    for row in cells(text(FUNCTIONS)):
+        for name in re.findall(r'\(`([a-z][\w]*-[\w-]*)`', row[-1]) if len(row) == 4 else []:
+            if name not in every:
+                troubles.append(f'{FUNCTIONS}: no theorem is called {name}')
 
 
 def check_edits(document):
@@ -60,17 +112,48 @@ def check_edits(document):
 
 
 def check_links(document):
-    for link in re.findall(r'\]\(([^)#]+)\)', text(document)):
+    for link in re.findall(r'\]\(([^)#]+)(?:#[^)]*)?\)', text(document)):
         if not link.startswith('http') and not os.path.exists(os.path.join(TOP, os.path.dirname(document), link)):
             troubles.append(f'{document}: the link {link} leads nowhere')
 
 
-check_functions()
-for document in DOCUMENTS:
-    check_rows(document)
-    check_edits(document)
-    check_links(document)
-for trouble in troubles:
-    print(trouble)
-print(f'{len(DOCUMENTS)} documents, {len(list(public_functions()))} public functions, {len(troubles)} differences')
-sys.exit(1 if troubles else 0)
+def check_trusted(tree):
+    """TRUSTED.md: the statements that are signed, what is pinned, and the definitions that they rest on, with their lines."""
+    words = Words(tree)
+    pinned = {tuple(row[:2]) for row in named_pairs('What is pinned')}
+    believed = set()
+    for path, name in named_pairs('The statements'):
+        if (path, name) not in words.at:
+            troubles.append(f'{TRUSTED}: {name} is not declared in {path}')
+            continue
+        believed |= words.rests_on(path, words.at[path, name].statement, pinned)
+    listed = set(named_pairs('The definitions'))
+    compare(TRUSTED, {f'{path}: {name}' for path, name in believed - pinned}, {f'{path}: {name}' for path, name in listed})
+    for row in cells(section(TRUSTED, 'The definitions')):
+        path = 'crates/' + row[0].strip()
+        lines = sum(words.at[path, name].lines for name in re.findall(r'`([^`]+)`', row[1]) if (path, name) in words.at)
+        if row[2].strip().isdigit() and int(row[2]) != lines:
+            troubles.append(f'{TRUSTED}: the definitions named of {path} have {lines} lines, not {row[2].strip()}')
+
+
+def named_pairs(heading):
+    return [('crates/' + row[0].strip(), name) for row in cells(section(TRUSTED, heading)) for name in re.findall(r'`([^`]+)`', row[1])]
+
+
+def main():
+    tree = Tree(TOP)
+    check_functions(tree)
+    check_wrong_answers(tree)
+    check_trusted(tree)
+    troubles.extend(refusal_troubles(TOP))
+    for document in DOCUMENTS:
+        check_names(document, tree)
+        check_edits(document)
+        check_links(document)
+    print('\n'.join(troubles) + ('\n' if troubles else ''), end='')
+    print(f'{len(DOCUMENTS)} documents, {len([f for f in tree.functions if f.public and not f.program])} public functions, {len(troubles)} differences')
+    sys.exit(1 if troubles else 0)
+
+
+if __name__ == '__main__':
+    main()

@@ -55,29 +55,29 @@ pub struct Passed {
 /// first byte, or the file's length where a record is missing.
 #[derive(Clone, Copy, Debug, PartialEq, Eq)]
 pub enum Refusal {
-    /// 1: the bytes end inside a record or before the end record.
+    /// 1: bytes end inside a record or before the end record.
     Short(u64),
-    /// 2: a kind of record that is unknown or not allowed at this place.
+    /// 2: kind unknown or not allowed at this place.
     Kind(u64),
-    /// 3: a time above 4,000, or a deadline of 0.
+    /// 3: a time above 4,000, or D = 0.
     Range(u64),
     /// 4: a 33rd job.
     Many(u64),
-    /// 5: an id that was used before in the same file.
+    /// 5: id used before in the same file.
     Twice(u64),
     /// 6: bytes after the end record.
     After(u64),
     /// 7: no timetable meets the deadline.
     NoTimetable,
-    /// 8: the plan names a job that the table lacks.
+    /// 8: plan names an id that the table lacks.
     Stranger,
-    /// 9: the plan sends a job away that has to stay.
+    /// 9: plan sends a here-only job away.
     Kept,
-    /// 10: the plan lacks a job of the table.
+    /// 10: plan lacks a job of the table.
     Left,
-    /// 11: the plan misses the deadline.
+    /// 11: plan run at full entries misses D.
     Late,
-    /// 18: the output area is shorter than [`LONGEST_PLAN`].
+    /// 18: output area shorter than 65 bytes.
     Room,
     /// An answer that the header does not know: another library is linked.
     Unknown,

@@ -17,7 +17,7 @@ pub enum Refusal {
     Twice(usize),
     /// 6: "bytes after the end record".
     After(usize),
-    /// 7, NONE: "no timetable, as above".
+    /// 7: "no timetable meets the deadline".
     NoTimetable,
     /// 8: "plan names an id that the table lacks".
     Stranger,
