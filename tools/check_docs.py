@@ -3,7 +3,8 @@
 
 - Every public function stands in docs/FUNCTIONS.md by crate, type and name, has its line in crate `settled` over its own contract, and is listed
   exactly where it has a `requires` or no `ensures`.
-- Every theorem, definition and function that a document names is declared in the file that it names; every edit and every link is there.
+- Every theorem, definition and function that a document names is declared in the file that it names; every edit and every link is there, and a
+  formula that is printed with file and line reads so there.
 - The definitions of docs/TRUSTED.md, with their lines, are exactly what the statements named there rest on.
 - A refusal's number, word and sentence are the same wherever they stand.
 """
@@ -117,6 +118,14 @@ def check_links(document):
             troubles.append(f'{document}: the link {link} leads nowhere')
 
 
+def check_quotes(document, tree):
+    """A formula that a document prints under `FILE`, line N, stands there."""
+    for path, line, quoted in re.findall(r'`(crates/[\w/+.-]+)`, line (\d+):\n\n```text\n(.*?)```', text(document), re.S):
+        source = tree.texts.get(path, '').split('\n')[int(line) - 1:]
+        if ' '.join(quoted.split()) != ' '.join('\n'.join(source[:len(quoted.strip().split('\n'))]).split()):
+            troubles.append(f'{document}: {path}, line {line}, does not read as it is printed')
+
+
 def check_trusted(tree):
     """TRUSTED.md: the statements that are signed, what is pinned, and the definitions that they rest on, with their lines."""
     words = Words(tree)
@@ -150,6 +159,7 @@ def main():
         check_names(document, tree)
         check_edits(document)
         check_links(document)
+        check_quotes(document, tree)
     print('\n'.join(troubles) + ('\n' if troubles else ''), end='')
     print(f'{len(DOCUMENTS)} documents, {len([f for f in tree.functions if f.public and not f.program])} public functions, {len(troubles)} differences')
     sys.exit(1 if troubles else 0)
