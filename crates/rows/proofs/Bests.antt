@@ -13,12 +13,13 @@ use Rattle.model.proofs.Held.{shift-held, pick-first, pick-second}
 use Rattle.rows.specs.declared.Choice.{Choice}
 use Rattle.rows.specs.Rows.{nothing}
 use Rattle.rows.specs.Columns.{Rows, Better, Single}
+use Rattle.table.specs.Limits.{largestTime}
 
 -- a choice holds a cell
 abbrev pub HeldBy : Cell → Choice → Type 0
 HeldBy c r = Holds nothing (r .total) (r .mask) c
 
-pub best-next : (D : ℕ) (os : List Job) (base t : ℕ) (ts ms : List ℕ) (found next r : Choice) → Rows D os ts ms → length os ≤ 32 → base ≤ 32 * 4000 → D ≤ 4000 → t ≤ D
+pub best-next : (D : ℕ) (os : List Job) (base t : ℕ) (ts ms : List ℕ) (found next r : Choice) → Rows D os ts ms → length os ≤ 32 → base ≤ 32 * largestTime → D ≤ largestTime → t ≤ D
     → next .total ≡ getD ts t 0 + t + base → next .mask ≡ getD ms t 0 → Better found next r
     → Holds nothing (found .total) (found .mask) (bestBelow D os base t) → Holds nothing (r .total) (r .mask) (bestBelow D os base (suc t))
 best-next D os base t ts ms found next r w few based deadline h p q better held = pass better

@@ -13,6 +13,7 @@ use Rattle.model.specs.Lists.{All}
 use Rattle.rows.specs.Rows.{Ready}
 use Rattle.rows.specs.Columns.{Fit, Stepped, Rows}
 use Rattle.rows.proofs.Rows.{rows-fit, rows-next}
+use Rattle.table.specs.Limits.{largestTime}
 
 pub taken-length : (jobs : List Job) (k : ℕ) → k ≤ length jobs → length (reverse (take k jobs)) ≡ k
 taken-length jobs k h = length-reverse (take k jobs) ∙ length-take-le k jobs h
@@ -42,8 +43,8 @@ module _ (D base count k : ℕ) (jobs : List Job) (none : Job) (ts ms : List ℕ
   few : length (reverse (take k jobs)) < 32
   few = omega (arith, taken-length jobs k (omega (arith, r .few)), r .few)
 
-  small : job .local ≤ 4000
-  small = taken-each (λ (j : Job). j .local ≤ 4000) jobs count k none (r .locals) h (omega (arith, r .few))
+  small : job .local ≤ largestTime
+  small = taken-each (λ (j : Job). j .local ≤ largestTime) jobs count k none (r .locals) h (omega (arith, r .few))
 
   own : bit ≡ 2 ^ length (reverse (take k jobs))
   own = shifted k (omega (arith, r .few)) ∙ ap (λ (n : ℕ). 2 ^ n) (sym (taken-length jobs k (omega (arith, r .few))))

@@ -67,8 +67,8 @@ module _ (D : ℕ) (o : Job) (bit s e : ℕ) (ts ms ts₁ ts₂ ms₂ ts₃ : Li
   pub stepped : Stepped D o bit ts ms ts₃ ms₂
   stepped =
       record {
-        totalColumns = l .columns;
-        maskColumns = w .masks .columns;
+        totalColumns = l .sized;
+        maskColumns = w .masks .sized;
         sent = λ t h g. sent room t h g;
         kept = λ t h c. kept room t h c;
       }

@@ -15,17 +15,18 @@ use Rattle.model.specs.Timetable.{setupTime, returnTime}
 use Rattle.model.specs.Recurrence.{cell, row, Holds}
 use Rattle.model.proofs.Bounds.{row-bounds}
 use Rattle.model.proofs.Held.{next-sent, next-kept}
-use Rattle.rows.specs.Rows.{nothing}
+use Rattle.rows.specs.Rows.{nothing, columns}
 use Rattle.rows.specs.Columns.{Fit, Raised, lower, Stepped, Column, Rows}
+use Rattle.table.specs.Limits.{largestTime}
 
 -- the same column by other names of its numbers
 column-at : {D : ℕ} {os : List Job} {t x y x' y' : ℕ} → x' ≡ x → y' ≡ y → Column D os t x y → Column D os t x' y'
 column-at {D} {os} {t} {x} {y} {x'} {y'} p q c = subst (λ (u : ℕ). Column D os t u y') (sym p) (subst (Column D os t x) (sym q) c)
 
 -- before the first job: column 0 has the total 0, and every other stands for nothing
-pub rows-start : (D n : ℕ) (ts : List ℕ) → n ≡ 4001 → D ≤ 4000 → Raised 1 (D + 1) nothing (replicate n zero) ts → Rows D [] ts (replicate n zero)
+pub rows-start : (D n : ℕ) (ts : List ℕ) → n ≡ columns → D ≤ largestTime → Raised 1 (D + 1) nothing (replicate n zero) ts → Rows D [] ts (replicate n zero)
 rows-start D n ts e h k =
-    record { totalColumns = k .columns; maskColumns = length-replicate n zero ∙ e; each = at; locals = omega arith }
+    record { totalColumns = k .sized; maskColumns = length-replicate n zero ∙ e; each = at; locals = omega arith }
   where
     at : (t : ℕ) → t ≤ D → Column D [] t (getD ts t 0) (getD (replicate n zero) t 0)
     at zero l =
@@ -44,7 +45,7 @@ lower-kept : (kept sent a b : ℕ) → ltb sent kept ≡ false → lower kept se
 unfolding lower
 lower-kept kept sent a b e = rw e
 
-module _ (D : ℕ) (os : List Job) (o : Job) (few : length os < 32) (small : o .local ≤ 4000) (ts ms : List ℕ) (r : Rows D os ts ms) where
+module _ (D : ℕ) (os : List Job) (o : Job) (few : length os < 32) (small : o .local ≤ largestTime) (ts ms : List ℕ) (r : Rows D os ts ms) where
   -- the rows have room for one job more
   pub rows-fit : Fit (D + 1) (o .local) ts × Fit (D + 1) (2 ^ length os) ms
   rows-fit =

@@ -12,7 +12,8 @@ use Rattle.model.specs.Lists.{total}
 use Rattle.model.specs.Timetable.{setupTime, returnTime}
 use Rattle.model.specs.Recurrence.{Holds, row}
 use Rattle.rows.specs.declared.Choice.{Choice}
-use Rattle.rows.specs.Rows.{nothing}
+use Rattle.rows.specs.Rows.{nothing, columns}
+use Rattle.table.specs.Limits.{largestTime}
 
 -- each number before column n has room for `more`
 abbrev pub Fit : ℕ → ℕ → List ℕ → Type 0
@@ -20,7 +21,7 @@ Fit n more xs = (t : ℕ) → t < n → getD xs t 0 + more < 4294967296
 
 -- the numbers from..to have become what `new` says, and no other has changed
 pub record Changed (from to : ℕ) (new : ℕ → ℕ) (xs xs' : List ℕ) : Type 0 where
-  pub columns : length xs' ≡ 4001
+  pub sized : length xs' ≡ columns
   pub inside : (t : ℕ) → from ≤ t → t < to → getD xs' t 0 ≡ new t
   pub outside : (t : ℕ) → (t < from) ⊎ (to ≤ t) → getD xs' t 0 ≡ getD xs t 0
 
@@ -57,8 +58,8 @@ RoomFor D setup back from to =
 
 -- one job more in the columns 0..D
 pub record Stepped (D : ℕ) (o : Job) (bit : ℕ) (ts ms ts' ms' : List ℕ) : Type 0 where
-  pub totalColumns : length ts' ≡ 4001
-  pub maskColumns : length ms' ≡ 4001
+  pub totalColumns : length ts' ≡ columns
+  pub maskColumns : length ms' ≡ columns
   pub sent : (t : ℕ) → setupTime o ≤ t → t + returnTime o ≤ D
       → (getD ts' t 0 ≡ lowerTotal (setupTime o) (o .local) ts t) × (getD ms' t 0 ≡ lowerMask (setupTime o) (o .local) bit ts ms t)
   pub kept : (t : ℕ) → t ≤ D → (t < setupTime o) ⊎ (D < t + returnTime o)
@@ -67,15 +68,15 @@ pub record Stepped (D : ℕ) (o : Job) (bit : ℕ) (ts ms ts' ms' : List ℕ) : 
 -- the total x and the mask y hold the row's column t, and are small enough for one job more
 pub record Column (D : ℕ) (os : List Job) (t x y : ℕ) : Type 0 where
   pub held : Holds nothing x y (row D os t)
-  pub low : x ≤ nothing + 4000 * length os
+  pub low : x ≤ nothing + largestTime * length os
   pub bits : y < 2 ^ length os
 
 -- the totals and the masks hold the row of the jobs, to column D
 pub record Rows (D : ℕ) (os : List Job) (ts ms : List ℕ) : Type 0 where
-  pub totalColumns : length ts ≡ 4001
-  pub maskColumns : length ms ≡ 4001
+  pub totalColumns : length ts ≡ columns
+  pub maskColumns : length ms ≡ columns
   pub each : (t : ℕ) → t ≤ D → Column D os t (getD ts t 0) (getD ms t 0)
-  pub locals : total (λ (j : Job). j .local) os ≤ 4000 * length os
+  pub locals : total (λ (j : Job). j .local) os ≤ largestTime * length os
 
 -- of two choices the second where it is lower, at equal totals the one with the smaller mask
 abbrev pub Better : Choice → Choice → Choice → Type 0

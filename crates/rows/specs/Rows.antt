@@ -7,9 +7,13 @@ use Rattle.model.specs.declared.Job.{Job}
 use Rattle.table.specs.Limits.{mostJobs, largestTime}
 use Rattle.model.specs.Lists.{All}
 
--- a total of this or more stands for nothing
+-- "The planner's own work rows have 4,001 entries, one for each tick from 0 to 4,000."
+abbrev pub columns : ℕ
+columns = 4001
+
+-- a total of this or more stands for nothing: above every real one, also where 32 jobs may take 60,000 each
 abbrev pub nothing : ℕ
-nothing = 1000000
+nothing = 4000000
 
 -- the rows have 4,001 columns, so the deadline is at most 4,000; so are the local times, of at most 32 jobs: no total reaches `nothing`
 pub record Ready (d base : ℕ) (jobs : List Job) (count : ℕ) : Type 0 where

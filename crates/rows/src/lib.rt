@@ -10,11 +10,14 @@ ghost use lib.ListN.{length, take};
 ghost use Rattle.model.specs.Recurrence.{Holds, bestBelow};
 ghost use Rattle.model.specs.Timetable.{setupTime, returnTime};
 ghost use Rattle.table.specs.Limits.{mostJobs, largestTime};
-ghost use Rattle.rows.specs.Rows.{nothing, Ready};
+ghost use Rattle.rows.specs.Rows.{columns, nothing, Ready};
 ghost use Rattle.rows.specs.Columns.{Fit, Raised, Sent, RoomFor, Stepped, Rows, lower, Better, Single};
 
-// A total of 1,000,000 or more stands for nothing: no choice of the jobs so far has this setup total.
-const NOTHING: u32 = 1_000_000;
+// One column for each tick from 0 to the largest time.
+const COLUMNS: usize = 4001;
+
+// A total of so much or more stands for nothing: no choice of the jobs so far has this setup total.
+const NOTHING: u32 = 4_000_000;
 
 // A choice's total, and its mask: bit j says that the j-th job in away order is away.
 pub struct Choice {
@@ -60,8 +63,8 @@ fn lower_of(kept: u32, sent: u32, of_kept: u32, of_sent: u32) -> u32
 }
 
 // Each total of the columns from..to grows by so much.
-fn raise(totals: &mut [u32; 4001], from: usize, to: usize, by: u32)
-    requires { ⌜ (length (now totals) ≡ 4001) × (from ≤ to) × (to ≤ 4001) × Fit to by (now totals) ⌝ }
+fn raise(totals: &mut [u32; COLUMNS], from: usize, to: usize, by: u32)
+    requires { ⌜ (length (now totals) ≡ columns) × (from ≤ to) × (to ≤ columns) × Fit to by (now totals) ⌝ }
     ensures { λ r. ⌜ Raised from to by (now (totals .entry)) (now (totals .exit)) ⌝ }
 {
     for t in from..to {
@@ -72,14 +75,14 @@ fn raise(totals: &mut [u32; 4001], from: usize, to: usize, by: u32)
 // Each column setup..end keeps the job here, or takes the column a setup time earlier with the job's bit, where that total is lower.
 // It goes from the highest down, so that the earlier column is still the one before this job.
 fn send(
-    totals: &mut [u32; 4001],
-    masks: &mut [u32; 4001],
+    totals: &mut [u32; COLUMNS],
+    masks: &mut [u32; COLUMNS],
     setup: usize,
     end: usize,
     local: u32,
     bit: u32,
 )
-    requires { ⌜ (length (now totals) ≡ 4001) × (length (now masks) ≡ 4001) × (setup ≤ end) × (end ≤ 4001) × Fit end local (now totals) × Fit end bit (now masks) ⌝ }
+    requires { ⌜ (length (now totals) ≡ columns) × (length (now masks) ≡ columns) × (setup ≤ end) × (end ≤ columns) × Fit end local (now totals) × Fit end bit (now masks) ⌝ }
     ensures { λ r. ⌜ Sent setup end setup local bit (now (totals .entry)) (now (masks .entry)) (now (totals .exit)) (now (masks .exit)) ⌝ }
 {
     let mut n = end;
@@ -94,8 +97,8 @@ fn send(
 }
 
 // One job more, in the columns 0..=d: kept here where it cannot be sent away, else kept or sent, whichever has the lower total.
-fn add_job(totals: &mut [u32; 4001], masks: &mut [u32; 4001], d: usize, job: Job, bit: u32)
-    requires { ⌜ (length (now totals) ≡ 4001) × (length (now masks) ≡ 4001) × (d ≤ largestTime) × Fit (d + 1) (job .local) (now totals) × Fit (d + 1) bit (now masks) ⌝ }
+fn add_job(totals: &mut [u32; COLUMNS], masks: &mut [u32; COLUMNS], d: usize, job: Job, bit: u32)
+    requires { ⌜ (length (now totals) ≡ columns) × (length (now masks) ≡ columns) × (d ≤ largestTime) × Fit (d + 1) (job .local) (now totals) × Fit (d + 1) bit (now masks) ⌝ }
     ensures { λ r. ⌜ Stepped d job bit (now (totals .entry)) (now (masks .entry)) (now (totals .exit)) (now (masks .exit)) ⌝ }
 {
     let local = job.local as u32;
@@ -119,8 +122,8 @@ fn better(best: Choice, next: Choice) -> Choice
 }
 
 // The best of all columns 0..=d, each with its setup total and `base` added.
-fn best(totals: &[u32; 4001], masks: &[u32; 4001], d: usize, base: u32) -> Choice
-    requires { ⌜ (length (now totals) ≡ 4001) × (length (now masks) ≡ 4001) × (d ≤ largestTime) × (base ≤ mostJobs * largestTime) × Fit (d + 1) (largestTime + base) (now totals) ⌝ }
+fn best(totals: &[u32; COLUMNS], masks: &[u32; COLUMNS], d: usize, base: u32) -> Choice
+    requires { ⌜ (length (now totals) ≡ columns) × (length (now masks) ≡ columns) × (d ≤ largestTime) × (base ≤ mostJobs * largestTime) × Fit (d + 1) (largestTime + base) (now totals) ⌝ }
     ensures { λ r. ⌜ Single r × ((os : List Job) → Rows d os (now (totals .entry)) (now (masks .entry)) → length os ≤ mostJobs → Holds nothing (r .total) (r .mask) (bestBelow d os base (suc d))) ⌝ }
 {
     let mut found = Choice {
@@ -142,8 +145,8 @@ pub fn least(d: usize, base: u32, jobs: [Job; Table::MOST_JOBS], count: usize) -
     requires { ⌜ Ready d base jobs count ⌝ }
     ensures { λ r. ⌜ Single r × Holds nothing (r .total) (r .mask) (bestBelow d (reverse (take count jobs)) base (suc d)) ⌝ }
 {
-    let mut totals = [0u32; 4001];
-    let mut masks = [0u32; 4001];
+    let mut totals = [0u32; COLUMNS];
+    let mut masks = [0u32; COLUMNS];
     // Before the first job only column 0 is reached. Columns above d are never read, so they need no mark.
     raise(&mut totals, 1, d + 1, NOTHING);
     for k in 0..count {

@@ -24,7 +24,7 @@ raise-requires c κs =
 send-requires : tie.Need-send-requires
 send-requires c κs =
     let r = room-within _ _ _ _ _ (c .before .before .before .before .room-for .ensures) in (
-      c .before .before .raise .ensures .columns,
+      c .before .before .raise .ensures .sized,
       c .before .before .before .before .before .before .pre .1,
       r .0,
       omega arith,
@@ -35,7 +35,7 @@ send-requires c κs =
 raise-requires-2 : tie.Need-raise-requires-2
 raise-requires-2 c κs =
     let r = room-within _ _ _ _ _ (c .before .before .before .before .before .before .room-for .ensures) in (
-      c .before .send .ensures .totals .columns,
+      c .before .send .ensures .totals .sized,
       omega arith,
       omega arith,
       fit-before _ _ _ _ _ _ _ _ (c .before .send .ensures .totals) (omega arith) (r .0) (fit-before _ _ _ _ _ _ _ _ (c .before .before .before .before .raise .ensures) (omega arith) (r .1) (c .before .before .before .before .before .before .before .before .pre .3)),

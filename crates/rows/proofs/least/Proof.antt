@@ -11,6 +11,7 @@ use Rattle.rows.proofs.Rows.{rows-start}
 use Rattle.rows.proofs.Jobs.{taken-length, job-fits, job-added}
 use Rattle.rows.proofs.least.Statement.{statement}
 use Rattle.rows.proofs.least.Tie as tie
+use Rattle.rows.specs.Rows.{columns}
 
 abbrev Inv-loop : tie.InvT-loop
 Inv-loop d base count jobs totals₀ masks₀ k₀ totals masks k = (k ≤ count) × Rows d (reverse (take k jobs)) totals masks
@@ -24,10 +25,10 @@ add-raise c = omega (arith, c .before .pre .deadline)
 raise-requires : tie.Need-raise-requires Inv-loop μ-loop
 raise-requires c κs =
     let low = c .before .pre .deadline in
-    (refl, omega arith, omega arith, (λ t h. omega (arith, getD-replicate 4001 t zero 0 (omega arith))))
+    (refl, omega arith, omega arith, (λ t h. omega (arith, getD-replicate columns t zero 0 (omega arith))))
 
 loop-holds : tie.Need-loop-holds Inv-loop μ-loop
-loop-holds c = (omega arith, rows-start _ 4001 _ refl (c .before .before .pre .deadline) (c .raise .ensures))
+loop-holds c = (omega arith, rows-start _ columns _ refl (c .before .before .pre .deadline) (c .raise .ensures))
 
 mul-job : tie.Need-mul-job Inv-loop μ-loop
 mul-job c = search needs
