@@ -1,0 +1,64 @@
+"""plan: the plan of a table as the lister prints it; on a terminal with names and bars."""
+import shutil
+
+from .. import library, records, shown
+from ..refusals import Refusal
+
+NAME = 'plan'
+HELP = 'print the plan of a table'
+EXAMPLE = """\
+  ./zhiblator plan tables/e.words
+    frame 45 jobs 3         the deadline, the number of jobs
+    1 away 0 5 45           id, choice, start, span end, finish
+    2 away 5 15 25
+    3 here 15 40 40
+    busy 40 last 45         busy total, last finish
+  Not on a terminal these lines are printed alone, byte for byte as the proved lister prints them.
+"""
+WIDEST_BAR = 60
+
+
+def arguments(parser):
+    parser.add_argument('table', metavar='TABLE', help='in words, hex or bytes')
+    parser.add_argument('--given', action='store_true', help='keep the jobs in table order')
+    parser.add_argument('--names', action='store_true', help="the table's names behind the job lines")
+    parser.add_argument('--json', action='store_true', help='for programs')
+
+
+def run(args):
+    table, proved = records.read_table(args.table), library.load()
+    answer = proved.plan(table.data, args.given)
+    if isinstance(answer, Refusal):
+        return shown.refuse(args, answer, table, proved)
+    layout = records.layout_of(table.data, answer)
+    lines = terminal_lines(layout, table.names) if shown.on_terminal() else plain_lines(layout, table.names, args.names)
+    return shown.accept(args, keys(layout, table.names, args.given), lines)
+
+
+def keys(layout, names, given):
+    jobs = [dict(stay._asdict(), name=names.get(stay.id, '')) for stay in layout.stays]
+    order = 'given' if given else 'free'
+    return {'order': order, 'deadline': layout.deadline, 'jobs': jobs, 'busy': layout.busy, 'last': layout.last}
+
+
+def plain_lines(layout, names, named):
+    """The lister's lines; with `named` a job's name behind its line."""
+    yield f'frame {layout.deadline} jobs {len(layout.stays)}'
+    for stay in layout.stays:
+        yield ' '.join(str(word) for word in stay) + (f' {names[stay.id]}' if named and stay.id in names else '')
+    yield f'busy {layout.busy} last {layout.last}'
+
+
+def terminal_lines(layout, names):
+    """The same in columns, each job with a bar: its span full, its answer's time light."""
+    widest = max([len(name) for id, name in names.items() if id is not None], default=0)
+    room = shutil.get_terminal_size().columns - 34 - widest
+    scale = max(10, min(WIDEST_BAR, room)) / layout.deadline
+    yield shown.coloured(f'{"id":>5} choice  start    end finish', 'dim')
+    for stay in layout.stays:
+        start, end, finish = (round(time * scale) for time in stay[2:])
+        bar = ' ' * start + '█' * (end - start) + '░' * (finish - end)
+        bar += ' ' * (round(layout.deadline * scale) - finish) + '|'
+        line = f'{stay.id:>5} {stay.choice:<6} {stay.start:>6} {stay.span_end:>6} {stay.finish:>6} '
+        yield f'{line} {shown.coloured(bar, stay.choice)} {names.get(stay.id, "")}'.rstrip()
+    yield f'frame {layout.deadline} jobs {len(layout.stays)} busy {layout.busy} last {layout.last}'
