@@ -55,28 +55,34 @@ class Call(NamedTuple):
     words: str
 
 
+def float_bytes(number):
+    """The pattern of a 32-bit value, None for a number beyond the largest."""
+    try:
+        return struct.pack('<f', number)
+    except OverflowError:
+        return None
+
+
 def value_bytes(word):
     """A value's pattern: of a number in words, or as it stands."""
     if re.fullmatch('0x[0-9A-Fa-f]{1,8}', word):
         return struct.pack('<I', int(word, 16))
     if not re.fullmatch(VALUE, word.lower()):
         raise Trouble(f'{quoted(word)!r} is no value (a number, nan, inf, or 0x and eight digits)')
-    number = float(word)
-    try:
-        if math.isinf(number) and 'inf' not in word.lower():
-            raise OverflowError
-        return struct.pack('<f', number)
-    except OverflowError:
+    found = float_bytes(float(word))
+    if found is None or math.isinf(float(word)) and 'inf' not in word.lower():
         raise Trouble(f'{quoted(word)} is beyond the largest 32-bit value')
+    return found
 
 
 def decimal(pattern):
     """The shortest decimal number that has this pattern."""
-    number, = struct.unpack('<f', struct.pack('<I', pattern))
+    found = struct.pack('<I', pattern)
+    number, = struct.unpack('<f', found)
     if not math.isfinite(number):
         return str(number)
-    short = (f'{number:.{digits}g}' for digits in range(1, 10))
-    return str(float(next(text for text in short if struct.pack('<f', float(text)) == struct.pack('<I', pattern))))
+    shorter = (float(f'{number:.{digits}g}') for digits in range(1, 10))
+    return str(next(text for text in shorter if float_bytes(text) == found))
 
 
 def field_bytes(word, field):

@@ -1,6 +1,4 @@
 """Files in and out: what cannot be read or written is told in one plain line; no more is read than a table needs."""
-import sys
-
 from .troubles import Trouble
 
 MOST_BYTES = 1 << 20
@@ -9,11 +7,8 @@ MOST_BYTES = 1 << 20
 def read(path):
     """The bytes of a file; '-' is standard input."""
     try:
-        if path == '-':
-            data = sys.stdin.buffer.read(MOST_BYTES + 1)
-        else:
-            with open(path, 'rb') as file:
-                data = file.read(MOST_BYTES + 1)
+        with open(0 if path == '-' else path, 'rb', closefd=path != '-') as file:
+            data = file.read(MOST_BYTES + 1)
     except FileNotFoundError:
         raise Trouble(f'{path}: no such file')
     except IsADirectoryError:

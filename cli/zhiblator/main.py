@@ -64,22 +64,27 @@ def told(line, code):
     return code
 
 
+def ready_streams():
+    """What cannot be shown is shown by its number; a stream that was closed takes everything and keeps nothing."""
+    for name in ('stdout', 'stderr'):
+        if getattr(sys, name) is None:
+            setattr(sys, name, open(os.devnull, 'w'))
+        getattr(sys, name).reconfigure(errors='backslashreplace')
+
+
 def main(words):
     """The exit code; what is printed is written out before it is given."""
-    for stream in (sys.stdout, sys.stderr):
-        stream.reconfigure(errors='backslashreplace')
+    ready_streams()
     try:
         code = run(words)
         sys.stdout.flush()
         return code
     except Trouble as trouble:
         return told(trouble, trouble.code)
-    except BrokenPipeError:
-        # whoever read has gone; nothing more is written, also not when Python ends
-        os.dup2(os.open(os.devnull, os.O_WRONLY), sys.stdout.fileno())
-        return ACCEPTED
     except KeyboardInterrupt:
         return told('interrupted', INTERRUPTED)
     except OSError as why:
+        # what is left in the buffer goes nowhere, also not when Python ends
         os.dup2(os.open(os.devnull, os.O_WRONLY), sys.stdout.fileno())
-        return told(f'cannot write: {why.strerror}', BROKEN)
+        gone = isinstance(why, BrokenPipeError)
+        return ACCEPTED if gone else told(f'cannot write: {why.strerror}', BROKEN)

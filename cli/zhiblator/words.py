@@ -28,7 +28,8 @@ class Form(NamedTuple):
 
 
 class Read(NamedTuple):
-    """A file as the library takes it; for one in words also the line of each record by its offset, and the names."""
+    """A file as the library takes it. Of one in words also the line of each record by its offset (None for a file in
+    hex or bytes), and the names by id, that of the frame under None."""
     what: str
     data: bytes
     lines: dict
@@ -36,13 +37,13 @@ class Read(NamedTuple):
 
     def where(self, place):
         """A place in words."""
-        if not self.lines:
+        if self.lines is None:
             return f'byte {place}'
         line = self.lines.get(place)
         return f'byte {place}, line {line.number}: {quoted(line.text)}' if line else f'byte {place}, its end'
 
     def line_at(self, place):
-        return self.lines[place].number if place in self.lines else None
+        return self.lines[place].number if place in (self.lines or {}) else None
 
 
 def quoted(text):
@@ -136,4 +137,4 @@ def read(path, form):
         if text is not None:
             return encoded(text, form, path)
         plain = data
-    return Read(form.what, plain, {}, {})
+    return Read(form.what, plain, None, {})
