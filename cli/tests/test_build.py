@@ -88,7 +88,8 @@ class Crates(Case):
         self.assertIn('frame', build.needed('replay'))
 
     def test_progress_by_crate(self):
-        lines = ['fn model::f: proved\n', 'rt: model proved (7 s)\n', 'rt: text proved (unchanged since it was last proved)\n',
+        lines = ['fn model::f: proved\n', 'rt: model proved (7 s)\n',
+                 'rt: text proved (unchanged since it was last proved)\n',
                  'rt: target/staticlib/libpanel.a has the functions of panel that are marked\n']
         out, said = io.StringIO(), io.StringIO()
         with redirect_stderr(said):
@@ -122,8 +123,9 @@ class Kit(Case):
 
     def test_a_proof_that_fails(self):
         self.tool('rt', 'case $1 in version) echo x ;; *) echo "rt: table NOT PROVED"; exit 1 ;; esac')
-        with mock.patch.object(build, 'TARGET', self.folder), self.assertRaisesRegex(Broken, 'rt staticlib panel ended with 1'):
-            self.with_path(lambda: build.prove(['staticlib', 'panel'], 'panel'))
+        with mock.patch.object(build, 'TARGET', self.folder):
+            with self.assertRaisesRegex(Broken, 'rt staticlib panel ended with 1'):
+                self.with_path(lambda: build.prove(['staticlib', 'panel'], 'panel'))
 
     def test_no_compiler_or_one_that_fails(self):
         archive, path = self.file('no archive', 'a.a'), os.path.join(self.folder, 'a.so')

@@ -41,7 +41,8 @@ class Plan(Case):
 
     def test_keys_of_a_refusal(self):
         keys = self.keys(1, 'plan', self.file(E.replace('45', '44')))
-        none = {'number': 7, 'word': 'NONE', 'sentence': 'no timetable meets the deadline', 'place': None, 'line': None}
+        none = {'number': 7, 'word': 'NONE', 'sentence': 'no timetable meets the deadline',
+                'place': None, 'line': None}
         self.assertEqual(keys, {'accepted': False, 'file': 'table', 'refused': none, 'least': 45})
         keys = self.keys(1, 'plan', self.file(E + 'here 3 1'))
         self.assertEqual([keys['refused'][key] for key in ('number', 'place', 'line')], [5, 23, 5])
@@ -49,8 +50,8 @@ class Plan(Case):
         self.assertEqual(self.keys(1, 'plan', self.file(E_BYTES[:-1]))['refused']['line'], None)
 
     def test_refusals_of_bytes(self):
-        for data, line in ((E_BYTES[:17], 'refused 1 at 11'), (E_BYTES[:-1], 'refused 1 at 23'), (E_BYTES + b'x', 'refused 6 at 24'),
-                           (E_BYTES[:3] + b'\x13', 'refused 2 at 3')):
+        for data, line in ((E_BYTES[:17], 'refused 1 at 11'), (E_BYTES[:-1], 'refused 1 at 23'),
+                           (E_BYTES + b'x', 'refused 6 at 24'), (E_BYTES[:3] + b'\x13', 'refused 2 at 3')):
             out, err = self.refused('plan', self.file(data))
             self.assertEqual(out, line + '\n')
             self.assertTrue(err.endswith('; byte ' + line.split()[-1] + '\n'), err)
@@ -136,7 +137,8 @@ class Bytes(Case):
     def test_refused(self):
         out, _ = self.refused('bytes', self.file(E.replace('45', '44')))
         self.assertRegex(out, r'\Atable 24 bytes\n10 2C .*\nsha256 \w{64}\ntable refused 7\n\Z')
-        self.assertEqual(self.refused('bytes', self.file(E), self.file('away 3', 'plan'))[0].split('\n')[-2], 'plan refused 9')
+        out, _ = self.refused('bytes', self.file(E), self.file('away 3', 'plan'))
+        self.assertEqual(out.split('\n')[-2], 'plan refused 9')
         keys = self.keys(1, 'bytes', self.file(b'\x10'))
         self.assertEqual((keys['table']['hex'], keys['refused']['number'], keys['file']), ('10', 1, 'table'))
 
@@ -164,13 +166,15 @@ class Version(Case):
     def test_version(self):
         out = self.accepted('version')
         self.assertEqual(out, self.accepted('--version'))
-        self.assertTrue(out.startswith(f'zhiblator {first_line("VERSION")}\nproved with {first_line("kit-version")}\n'))
+        self.assertEqual(out.splitlines()[:2],
+                         [f'zhiblator {first_line("VERSION")}', f'proved with {first_line("kit-version")}'])
 
     def test_the_version_is_the_same_everywhere(self):
         version = first_line('VERSION')
-        with open(os.path.join(TOP, 'include', 'zhiblator.h')) as header, open(os.path.join(TOP, 'CHANGELOG.md')) as log:
+        with open(os.path.join(TOP, 'include', 'zhiblator.h'), encoding='utf-8') as header:
             self.assertIn(f'#define ZB_VERSION "{version}"', header.read())
-            self.assertEqual(re.search(r'^## (\S+)', log.read(), re.M)[1], version)
+        with open(os.path.join(TOP, 'CHANGELOG.md'), encoding='utf-8') as changes:
+            self.assertEqual(re.search(r'^## (\S+)', changes.read(), re.M)[1], version)
 
 
 class Help(Case):

@@ -32,8 +32,8 @@ class Replay(Case):
             'read refused 15 WHO'])
 
     def test_the_checks_refusals_at_begin(self):
-        self.assertEqual(self.answers('begin 1 hex:10 away 1\nbegin 1 table\nbegin 1 table away 3\nbegin 1 table away 9\n'
-                                      'begin 1 table away 2 away 1 here 3\n'),
+        self.assertEqual(self.answers('begin 1 hex:10 away 1\nbegin 1 table\nbegin 1 table away 3\n'
+                                      'begin 1 table away 9\nbegin 1 table away 2 away 1 here 3\n'),
                          ['begin refused 1 at 0 SHORT', 'begin refused 10 LEFT', 'begin refused 9 KEPT',
                           'begin refused 8 STRANGER', 'begin refused 11 LATE'])
 
@@ -65,7 +65,8 @@ class Replay(Case):
         jobs = range(1, 33)
         self.file('frame 99\n' + ''.join(f'here {id} 1\n' for id in jobs), 'many')
         out = self.accepted('replay', self.log('begin 1 many ' + ' '.join(f'here {id}' for id in jobs) + '\nnext\n'))
-        self.assertEqual([line.strip() for line in out.splitlines()][1:], ['begin accepted', 'next' + ' ' * 63 + 'next 1 here'])
+        self.assertEqual([line.strip() for line in out.splitlines()][1:],
+                         ['begin accepted', 'next' + ' ' * 63 + 'next 1 here'])
 
     def test_a_log_that_stops(self):
         for text, said in (('next\nraw 99\nnext\n', 'stopped at byte 1, line 2: no record has the kind 99'),
@@ -88,10 +89,13 @@ class Replay(Case):
 
     def test_bad_logs_by_line(self):
         for text, said in (
-                ('next\nbegn 1', "line 2: 'begn' is no call"), ('begin 7 table away', "line 1: the last step, 'away', has no id"),
-                ('begin 7 table 1 away', "line 1: '1' is no step of a plan"), ('begin 7', 'line 1: begin lacks a word'),
+                ('next\nbegn 1', "line 2: 'begn' is no call"),
+                ('begin 7 table away', "line 1: the last step, 'away', has no id"),
+                ('begin 7 table 1 away', "line 1: '1' is no step of a plan"),
+                ('begin 7', 'line 1: begin lacks a word'),
                 ('begin 4294967296 table', 'line 1: 4294967296 is above'), ('span 1 2', 'line 1: span takes 3 words'),
-                ('next 1', 'line 1: next takes 0 words, and here are 1'), ('read -1', "line 1: '-1' is no whole number"),
+                ('next 1', 'line 1: next takes 0 words, and here are 1'),
+                ('read -1', "line 1: '-1' is no whole number"),
                 ('close 70000', 'line 1: 70000 is above 65,535'), ('span 1 2 x', "line 1: 'x' is no value"),
                 ('span 1 2 1e39', 'line 1: 1e39 is beyond'), ('span 1 2 1e999', 'line 1: 1e999 is beyond'),
                 ('span 1 2 0x123456789', "line 1: '0x123456789' is no value"), ('raw 4', "line 1: '4' is no hex text"),

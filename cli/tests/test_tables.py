@@ -34,7 +34,8 @@ class Taken(Case):
 
     def test_bytes_are_left_to_the_library(self):
         for content, line in ((b'', 'refused 1 at 0'), (b' \n', 'refused 1 at 0'), (b'\xff\xfe', 'refused 2 at 0'),
-                              (b'\x10', 'refused 1 at 0'), (b'\x10here 1', 'refused 3 at 0'), (b'\0' * 9999, 'refused 2 at 0')):
+                              (b'\x10', 'refused 1 at 0'), (b'\x10here 1', 'refused 3 at 0'),
+                              (b'\0' * 9999, 'refused 2 at 0')):
             self.assertEqual(self.refused('plan', self.file(content))[0], line + '\n', content)
 
 
@@ -76,7 +77,8 @@ class RefusedByLine(Case):
                  'RANGE: a time above 4,000, or D = 0; byte 3, line 2: here 1 65535 x'),
                 ('frame 9\n\nhere 1 5\nhere 1 6', 'refused 5 at 7',
                  'TWICE: id used before in the same file; byte 7, line 4: here 1 6'),
-                ('here 1 5', 'refused 2 at 0', 'KIND: kind unknown or not allowed at this place; byte 0, line 1: here 1 5'),
+                ('here 1 5', 'refused 2 at 0',
+                 'KIND: kind unknown or not allowed at this place; byte 0, line 1: here 1 5'),
                 ('frame 9\nframe 9', 'refused 2 at 3',
                  'KIND: kind unknown or not allowed at this place; byte 3, line 2: frame 9'),
                 ('# nothing', 'refused 2 at 0', 'KIND: kind unknown or not allowed at this place; byte 0, its end'),

@@ -12,8 +12,14 @@ from zhiblator import TOP
 from . import E, Case, zhiblator
 
 # the tables that the project brings; others may stand beside them
-EXAMPLES = ['air-header.words', 'cut.table', 'e.words', 'empty.words', 'lost-shift.words', 'thirty-two.words', 'twice.words']
+EXAMPLES = ['air-header.words', 'cut.table', 'e.words', 'empty.words', 'lost-shift.words', 'thirty-two.words',
+            'twice.words']
 READERS = ['plan', 'least', 'bytes', 'picture', 'replay']
+
+
+def as_bytes(name):
+    """The path of an example's file of bytes."""
+    return os.path.join(TOP, 'tables', name.split('.')[0] + '.table')
 
 
 class Files(Case):
@@ -21,7 +27,8 @@ class Files(Case):
         huge = self.file(b'# ' + b'x' * (1 << 20), 'huge')
         for path, said in (('nowhere', 'no such file'), (self.folder, 'a folder, not a file'),
                            (huge, 'more than 1,048,576 bytes'), ('/dev/zero', 'more than 1,048,576 bytes'),
-                           ('zhiblator/x', 'cannot be read: Not a directory'), ('x' * 5000, 'cannot be read: File name too long')):
+                           ('zhiblator/x', 'cannot be read: Not a directory'),
+                           ('x' * 5000, 'cannot be read: File name too long')):
             for command in READERS:
                 self.assertIn(said, self.unusable(command, path))
         for words in (['nowhere', 'tables/e.words'], ['tables/e.words', 'nowhere']):
@@ -50,8 +57,9 @@ class Files(Case):
 
 class Words(Case):
     def test_wrong_words(self):
-        for words in (['plann', 'x'], ['plan'], ['plan', 'x', 'y'], ['plan', '--wrong', 'x'], ['check', 'tables/e.words'],
-                      ['picture', '--json', 'tables/e.words'], ['version', 'x'], ['picture', 'tables/e.words', '-o']):
+        table = 'tables/e.words'
+        for words in (['plann', table], ['plan'], ['plan', table, table], ['plan', '--wrong', table], ['check', table],
+                      ['picture', '--json', table], ['version', table], ['picture', table, '-o']):
             self.assertIn('--help', self.unusable(*words))
 
     def test_no_words(self):
@@ -62,7 +70,8 @@ class Words(Case):
 
 class Streams(Case):
     def shell(self, line):
-        done = subprocess.run(['sh', '-c', line, sys.executable], cwd=TOP, stdout=subprocess.PIPE, stderr=subprocess.PIPE)
+        done = subprocess.run(['sh', '-c', line, sys.executable], cwd=TOP,
+                              stdout=subprocess.PIPE, stderr=subprocess.PIPE)
         return done.returncode, done.stderr.decode()
 
     def test_closed_streams_and_a_full_disk(self):
@@ -71,7 +80,8 @@ class Streams(Case):
                 ('"$0" zhiblator plan tables/e.words >&-', (0, '')),
                 ('"$0" zhiblator plan tables/cut.table 2>&-', (1, '')),
                 ('"$0" zhiblator plan - <&-', (2, 'zhiblator: -: cannot be read: Bad file descriptor\n')),
-                ('"$0" zhiblator plan tables/e.words > /dev/full', (3, 'zhiblator: cannot write: No space left on device\n'))):
+                ('"$0" zhiblator plan tables/e.words > /dev/full',
+                 (3, 'zhiblator: cannot write: No space left on device\n'))):
             self.assertEqual(self.shell(line), said, line)
 
     def test_interrupted(self):
@@ -113,7 +123,7 @@ class Examples(Case):
         for name in EXAMPLES:
             path = os.path.join(self.folder, name)
             zhiblator('bytes', os.path.join('tables', name), '--table', path)
-            with open(path, 'rb') as ours, open(os.path.join(TOP, 'tables', name.split('.')[0] + '.table'), 'rb') as theirs:
+            with open(path, 'rb') as ours, open(as_bytes(name), 'rb') as theirs:
                 self.assertEqual(ours.read(), theirs.read(), name)
 
     def test_the_lister_prints_the_same(self):
@@ -121,7 +131,7 @@ class Examples(Case):
         if not os.path.exists(lister):
             self.skipTest('the lister is not built: rt check lister')
         for name in EXAMPLES:
-            with open(os.path.join(TOP, 'tables', name.split('.')[0] + '.table'), 'rb') as table:
+            with open(as_bytes(name), 'rb') as table:
                 listed = subprocess.run([lister], stdin=table, stdout=subprocess.PIPE).stdout.decode()
             self.assertEqual(zhiblator('plan', os.path.join('tables', name)).out, listed, name)
 

@@ -38,7 +38,8 @@ def parser():
     words = Parser(prog='./zhiblator', description=INTRODUCTION, epilog=CODES,
                    formatter_class=argparse.RawDescriptionHelpFormatter)
     words.add_argument('--version', action='store_true', help='what `version` says')
-    below = words.add_subparsers(title='subcommands', metavar='SUBCOMMAND', help='./zhiblator SUBCOMMAND --help tells more')
+    below = words.add_subparsers(title='subcommands', metavar='SUBCOMMAND',
+                                 help='./zhiblator SUBCOMMAND --help tells more')
     for module in COMMANDS:
         one = below.add_parser(module.NAME, help=module.HELP, description=module.HELP + '.',
                                epilog=f'example:\n{module.EXAMPLE}\n{CODES}',

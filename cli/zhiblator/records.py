@@ -77,5 +77,6 @@ def layout_of(table, planned):
         now += span
     last = max((stay.finish for stay in stays), default=0)
     if (now, last) != (planned.busy, planned.last):
-        raise Broken(f'the plan adds up to busy {now} last {last}, and the library says {planned.busy} and {planned.last}')
+        said = f'busy {planned.busy} last {planned.last}'
+        raise Broken(f'the plan adds up to busy {now} last {last}, and the library says {said}')
     return Layout(deadline, stays, now, last)

@@ -31,7 +31,10 @@ def run(args):
     if isinstance(answer, Refusal):
         return shown.refuse(args, answer, table, proved)
     layout = records.layout_of(table.data, answer)
-    lines = terminal_lines(layout, table.names) if shown.on_terminal() else plain_lines(layout, table.names, args.names)
+    if shown.on_terminal():
+        lines = terminal_lines(layout, table.names)
+    else:
+        lines = plain_lines(layout, table.names if args.names else {})
     return shown.accept(args, keys(layout, table.names, args.given), lines)
 
 
@@ -41,11 +44,11 @@ def keys(layout, names, given):
     return {'order': order, 'deadline': layout.deadline, 'jobs': jobs, 'busy': layout.busy, 'last': layout.last}
 
 
-def plain_lines(layout, names, named):
-    """The lister's lines; with `named` a job's name behind its line."""
+def plain_lines(layout, names):
+    """The lister's lines, a job's name behind its line."""
     yield f'frame {layout.deadline} jobs {len(layout.stays)}'
     for stay in layout.stays:
-        yield ' '.join(str(word) for word in stay) + (f' {names[stay.id]}' if named and stay.id in names else '')
+        yield ' '.join([str(word) for word in stay] + [names[stay.id]] * (stay.id in names))
     yield f'busy {layout.busy} last {layout.last}'
 
 
