@@ -48,7 +48,7 @@ def plain_lines(layout, names):
     """The lister's lines, a job's name behind its line."""
     yield f'frame {layout.deadline} jobs {len(layout.stays)}'
     for stay in layout.stays:
-        yield ' '.join([str(word) for word in stay] + [names[stay.id]] * (stay.id in names))
+        yield ' '.join(map(str, [*stay, names[stay.id]] if stay.id in names else stay))
     yield f'busy {layout.busy} last {layout.last}'
 
 
