@@ -59,7 +59,7 @@ class Replay(Case):
     def test_a_call_that_is_eaten_by_raw_bytes(self):
         found = self.keys(0, 'replay', self.log('raw 45\nnext\nread 1\n'))['calls']
         self.assertEqual([(call['call'], call['lines']) for call in found],
-                         [('read 65   # lines 1 to 2', [1, 2]), ('read 1', [3])])
+                         [('read 65', [1, 2]), ('read 1', [3])])
 
     def test_long_calls_do_not_run_into_their_answers(self):
         jobs = range(1, 33)

@@ -46,9 +46,13 @@ class Read(NamedTuple):
         return self.lines[place].number if place in (self.lines or {}) else None
 
 
+def printable(text):
+    return ''.join(c if c.isprintable() else '?' for c in text)
+
+
 def quoted(text):
-    """Text of a user's on one line of ours: nothing unprintable, nothing endless."""
-    text = ''.join(c if c.isprintable() else '?' for c in text)
+    """Text of a user's within a line of ours: nothing unprintable, nothing endless."""
+    text = printable(text)
     return text if len(text) <= WIDEST_QUOTE else text[:WIDEST_QUOTE - 2] + '..'
 
 
@@ -110,7 +114,7 @@ def record_of(text, form):
         raise Trouble(f'{quoted(text)!r} lacks a number: {word} {usage}')
     body = b''.join(number_bytes(w, name, width) for w, (name, width) in zip(rest, fields))
     id = body[0] if fields[0][0] == 'id' else None
-    return bytes([kind]) + body, id, quoted(' '.join(rest[len(fields):]))
+    return bytes([kind]) + body, id, printable(' '.join(rest[len(fields):]))
 
 
 def encoded(text, form, path):

@@ -52,16 +52,21 @@ def plain_lines(layout, names):
     yield f'busy {layout.busy} last {layout.last}'
 
 
+def bar(stay, deadline, width):
+    """A job's span full, its answer's time light; rounded outwards, so that the shortest span is seen."""
+    start = stay.start * width // deadline
+    end, finish = (-(-time * width // deadline) for time in (stay.span_end, stay.finish))
+    end = end if stay.span_end > stay.start else start
+    return (' ' * start + '█' * (end - start) + '░' * (finish - end)).ljust(width) + '|'
+
+
 def terminal_lines(layout, names):
-    """The same in columns, each job with a bar: its span full, its answer's time light."""
+    """The same in columns, each job with its bar and its name."""
     widest = max([len(name) for id, name in names.items() if id is not None], default=0)
-    room = shutil.get_terminal_size().columns - 34 - widest
-    scale = max(10, min(WIDEST_BAR, room)) / layout.deadline
+    width = max(10, min(WIDEST_BAR, shutil.get_terminal_size().columns - 36 - widest))
     yield shown.coloured(f'{"id":>5} choice  start    end finish', 'dim')
     for stay in layout.stays:
-        start, end, finish = (round(time * scale) for time in stay[2:])
-        bar = ' ' * start + '█' * (end - start) + '░' * (finish - end)
-        bar += ' ' * (round(layout.deadline * scale) - finish) + '|'
         line = f'{stay.id:>5} {stay.choice:<6} {stay.start:>6} {stay.span_end:>6} {stay.finish:>6} '
-        yield f'{line} {shown.coloured(bar, stay.choice)} {names.get(stay.id, "")}'.rstrip()
+        drawn = shown.coloured(bar(stay, layout.deadline, width), stay.choice)
+        yield f'{line} {drawn} {names.get(stay.id, "")}'.rstrip()
     yield f'frame {layout.deadline} jobs {len(layout.stays)} busy {layout.busy} last {layout.last}'

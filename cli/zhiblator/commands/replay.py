@@ -7,6 +7,7 @@ from typing import NamedTuple
 from .. import build, calls, shown
 from ..refusals import Refusal
 from ..troubles import ACCEPTED, REFUSED, Broken
+from ..words import printable
 
 NAME = 'replay'
 HELP = 'make the calls of a log on one frame record and print each with its answer'
@@ -30,12 +31,24 @@ ANSWER = re.compile(r'(?P<call>\w+) (?:refused (?P<number>\d+)(?: at (?P<place>\
 
 
 class Row(NamedTuple):
-    """A call with the lines it stands on, and the program's answer to it; `parts` are the answer taken apart."""
+    """A call with its words and the lines that it stands on, and the program's answer to it with its parts.
+
+    `written` tells whether the words are those of the log, not made from raw bytes.
+    """
     call: calls.Call
     lines: list
-    text: str
+    words: str
+    written: bool
     answer: str
     parts: dict
+
+    @property
+    def text(self):
+        """The words, with their lines where the log has other words there."""
+        if self.written or not self.lines:
+            return self.words
+        first, last = self.lines[0], self.lines[-1]
+        return f'{self.words}   # ' + (f'line {first}' if first == last else f'lines {first} to {last}')
 
     @property
     def refusal(self):
@@ -81,8 +94,7 @@ def paired(log, answers):
         word = 'stopped' if call.words is None else call.words.split()[0]
         if parts is None or answer.split()[0] != word:
             raise Broken(f'the program answered {answer!r} to {call.words!r}')
-        lines, text = words_of(log, call)
-        rows.append(Row(call, lines, text, answer, parts and parts.groupdict()))
+        rows.append(Row(call, *words_of(log, call), answer, parts and parts.groupdict()))
     return rows
 
 
@@ -91,13 +103,8 @@ def words_of(log, call):
     pieces = log.pieces_of(call.start, call.end)
     lines = [piece.line.number for piece in pieces]
     if len(pieces) == 1 and pieces[0][:2] == call[:2] and (call.words is None or not pieces[0].raw):
-        return lines, ' '.join(pieces[0].line.text.split())
-    words = call.words or f'{call.end - call.start} bytes from {call.start} on'
-    if len(lines) > 1:
-        words += f'   # lines {lines[0]} to {lines[-1]}'
-    elif lines:
-        words += f'   # line {lines[0]}'
-    return lines, words
+        return lines, printable(' '.join(pieces[0].line.text.split())), True
+    return lines, call.words or f'{call.end - call.start} bytes from {call.start} on', False
 
 
 def answer_words(row):
@@ -116,7 +123,8 @@ def show(rows):
         gap = f'\n{"":{width}}' if len(row.text) > width else ''
         print(f'{row.text:{width}}{gap}   {answer_words(row)}')
     met = sorted({row.refusal.number: row.refusal for row in rows if row.refusal}.items())
-    print(end='\n' if met else '')
+    if met:
+        print()
     for _, refusal in met:
         print(f'{refusal.number} {refusal.word}: {refusal.sentence}')
 
@@ -143,5 +151,5 @@ def row_keys(row):
     if row.parts['id']:
         job = {'id': int(row.parts['id']), 'choice': row.parts['choice']}
     refused = row.refusal and row.refusal.keys()
-    return {'at': row.call.start, 'lines': row.lines, 'call': row.text, 'answer': row.answer,
+    return {'at': row.call.start, 'lines': row.lines, 'call': row.words, 'answer': row.answer,
             'refused': refused, 'fresh': fresh, 'job': job}
