@@ -6,8 +6,10 @@ import stat
 import subprocess
 import sys
 import time
+from unittest import mock
 
-from zhiblator import TOP
+from zhiblator import TOP, library
+from zhiblator.commands import replay
 
 from . import E, Case, zhiblator
 
@@ -66,6 +68,25 @@ class Words(Case):
         done = zhiblator()
         self.assertEqual((done.code, done.out), (2, ''))
         self.assertIn('subcommands', done.err)
+
+
+class Broken(Case):
+    def test_an_answer_that_does_not_add_up(self):
+        wrong = library.Planned(bytes.fromhex('2F'), busy=1, last=0)
+        with mock.patch.object(library.Library, 'plan', return_value=wrong):
+            said = self.unusable('plan', 'tables/empty.words', code=3)
+        self.assertIn('the plan adds up to busy 0 last 0, and the library says busy 1 last 0', said)
+
+    def test_answers_that_are_not_as_many_as_the_calls(self):
+        with mock.patch.object(replay, 'answers_of', return_value=['next none']):
+            self.assertIn('the program gave 1 answers', self.unusable('replay', 'logs/on-time.calls', code=3))
+        path = self.file('read 1', 'x.calls')
+        with mock.patch.object(replay, 'answers_of', return_value=['next none']):
+            self.assertIn("answered 'next none' to 'read 1'", self.unusable('replay', path, code=3))
+
+    def test_an_error_of_our_own(self):
+        with mock.patch.object(library, 'load', side_effect=KeyError('x')):
+            self.assertIn('internal error at', self.unusable('plan', 'tables/e.words', code=3))
 
 
 class Streams(Case):

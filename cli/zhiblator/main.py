@@ -5,6 +5,7 @@ A subcommand is one module of commands/ (NAME, HELP, EXAMPLE, arguments, run) an
 import argparse
 import os
 import sys
+import traceback
 
 from .commands import bytes as bytes_
 from .commands import check, least, picture, plan, replay, version
@@ -89,3 +90,7 @@ def main(words):
         os.dup2(os.open(os.devnull, os.O_WRONLY), sys.stdout.fileno())
         gone = isinstance(why, BrokenPipeError)
         return ACCEPTED if gone else told(f'cannot write: {why.strerror}', BROKEN)
+    except Exception as why:
+        place = traceback.extract_tb(why.__traceback__)[-1]
+        name = os.path.basename(place.filename)
+        return told(f'internal error at {name}, line {place.lineno}: {type(why).__name__}: {why}', BROKEN)

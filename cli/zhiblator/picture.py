@@ -3,9 +3,10 @@
 The left margin is as wide as the longest name asks for, so names stand whole.
 """
 from html import escape
+from unicodedata import east_asian_width
 
 ACROSS, TOP, ROW, RIGHT = 550, 50, 34, 40
-LEAST_MARGIN, LETTER = 170, 7.5
+LEAST_MARGIN = 170
 PANEL, AWAY = 'fill="#2b6cb0"', 'fill="#bee3f8" stroke="#2b6cb0" stroke-dasharray="4 3"'
 
 
@@ -17,12 +18,16 @@ def ticks(deadline):
     return range(0, deadline + 1, int(step))
 
 
+def breadth(text):
+    """About how many points a text takes; rather too many, for no font is known."""
+    return sum(14 if east_asian_width(c) in 'WF' else 10 if c.isupper() else 7.5 for c in text)
+
+
 class Picture:
     def __init__(self, title, names, layout):
         self.title, self.layout = title, layout
         self.labels = [f'{stay.id}  {names.get(stay.id, "")}' for stay in layout.stays]
-        widest = max((len(label) for label in self.labels), default=0)
-        self.left = max(LEAST_MARGIN, 20 + round(LETTER * widest))
+        self.left = max([LEAST_MARGIN] + [20 + round(breadth(label)) for label in self.labels])
         self.base = TOP + ROW * len(self.labels) + 2
 
     def at(self, time):

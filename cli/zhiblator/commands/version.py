@@ -17,5 +17,6 @@ def run(_):
     pinned, here = first_line('kit-version'), build.kit_here()
     print(f'zhiblator {first_line("VERSION")}')
     print(f'proved with {pinned}')
-    print('installed: ' + (here or 'no kit, rt is not on the path') + (', another' if here and here != pinned else ''))
+    other = ' (another than the one that it was proved with)' if here and here != pinned else ''
+    print('installed: ' + (here or 'no kit, rt is not on the path') + other)
     return ACCEPTED
