@@ -50,23 +50,27 @@ class RefusedByLine(Case):
                 ('frame 45\nheer 1 40', ", line 2: 'heer' is no word of a table (those are frame, here, either)"),
                 ('hello world', ", line 1: 'hello' is no word of a table (those are frame, here, either)"),
                 ('<html>', ", line 1: '<html>' is no word of a table (those are frame, here, either)"),
-                ('frame', ", line 1: 'frame' lacks a number: frame deadline"),
-                ('frame 45\n\nhere 1', ", line 3: 'here 1' lacks a number: here id time"),
-                ('frame 1\neither 1 2 3', ", line 2: 'either 1 2 3' lacks a number: either id time setup return"),
-                ('frame x', ", line 1: 'x' is no whole number from 0 to 65,535"),
-                ('frame -1', ", line 1: '-1' is no whole number from 0 to 65,535"),
-                ('frame 1.5', ", line 1: '1.5' is no whole number from 0 to 65,535"),
-                ('frame ٣', ", line 1: '٣' is no whole number from 0 to 65,535"),
-                ('frame 1_0', ", line 1: '1_0' is no whole number from 0 to 65,535"),
-                ('frame 65536', ', line 1: 65536 is above 65,535, the largest deadline that its bytes hold'),
-                ('frame 9\nhere 256 1', ', line 2: 256 is above 255, the largest id that its bytes hold'),
-                ('frame 9\nhere 1 70000', ', line 2: 70000 is above 65,535, the largest time that its bytes hold'),
+                ('frame', ", line 1: 'frame' lacks a number; the line is frame DEADLINE [name]"),
+                ('frame 45\n\nhere 1', ", line 3: 'here 1' lacks a number; the line is here ID TIME [name]"),
+                ('frame 1\neither 1 2 3', ", line 2: 'either 1 2 3' lacks a number; "
+                 'the line is either ID TIME SETUP RETURN [name]'),
+                ('frame x', ", line 1: 'x' is no whole number from 0 to 65,535; the line is frame DEADLINE [name]"),
+                ('frame 65536', ', line 1: 65536 is above 65,535, the largest deadline that its bytes hold; '
+                 'the line is frame DEADLINE [name]'),
+                ('frame 9\nhere 256 1', ', line 2: 256 is above 255, the largest id that its bytes hold; '
+                 'the line is here ID TIME [name]'),
+                ('frame 9\nhere 1 70000', ', line 2: 70000 is above 65,535, the largest time that its bytes hold; '
+                 'the line is here ID TIME [name]'),
                 ('102', ': hex text with an odd number of digits')):
             self.assertEqual(self.trouble(text), said)
 
+    def test_what_is_no_number(self):
+        for word in ('-1', '1.5', '+5', '500ms', '0x10', '٣', '1_0', '4,000'):
+            self.assertIn(f'{word!r} is no whole number from 0 to 65,535', self.trouble(f'frame {word}'))
+
     def test_an_endless_number_or_word_is_cut(self):
         for text in ('frame ' + '9' * 9999, 'frame ' + 'x' * 9999, 'x' * 9999):
-            self.assertLess(len(self.trouble(text)), 180)
+            self.assertLess(len(self.trouble(text)), 200)
 
     def test_rules_are_the_librarys_and_told_by_line(self):
         many = 'frame 4000\n' + ''.join(f'here {id} 1\n' for id in range(33))

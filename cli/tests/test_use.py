@@ -52,6 +52,7 @@ class Files(Case):
     def test_odd_file_names(self):
         for name in ('a table', "it's", '#1', 'tést'):
             self.assertIn('busy 40 last 45', self.accepted('plan', self.file(E, name)))
+        self.assertIn('a b: no such file', self.unusable('plan', 'a\nb'))
         name = os.fsencode(self.folder) + b'/\xff'
         done = subprocess.run([sys.executable, 'zhiblator', b'plan', name], cwd=TOP, stderr=subprocess.PIPE)
         self.assertEqual((done.returncode, done.stderr.count(b'\n')), (2, 1))

@@ -10,6 +10,7 @@ import traceback
 from .commands import bytes as bytes_
 from .commands import check, least, picture, plan, replay, version
 from .troubles import ACCEPTED, BROKEN, USAGE, Trouble
+from .words import printable
 
 COMMANDS = [plan, least, check, bytes_, picture, replay, version]
 
@@ -61,8 +62,9 @@ def run(words):
     return args.run(args)
 
 
-def told(line, code):
-    print(f'zhiblator: {line}', file=sys.stderr)
+def told(trouble, code):
+    """One line, whatever a file is called or another program said."""
+    print('zhiblator: ' + printable(' '.join(str(trouble).splitlines())), file=sys.stderr)
     return code
 
 

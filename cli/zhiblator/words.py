@@ -109,10 +109,12 @@ def record_of(text, form):
     if word not in form.records:
         raise Trouble(f'{quoted(word)!r} is no word of a {form.what} (those are {", ".join(form.records)})')
     kind, fields = form.records[word]
-    if len(rest) < len(fields):
-        usage = ' '.join(name for name, _ in fields)
-        raise Trouble(f'{quoted(text)!r} lacks a number: {word} {usage}')
-    body = b''.join(number_bytes(w, name, width) for w, (name, width) in zip(rest, fields))
+    try:
+        if len(rest) < len(fields):
+            raise Trouble(f'{quoted(text)!r} lacks a number')
+        body = b''.join(number_bytes(w, name, width) for w, (name, width) in zip(rest, fields))
+    except Trouble as why:
+        raise Trouble(f'{why}; the line is {word} {" ".join(name.upper() for name, _ in fields)} [name]')
     id = body[0] if fields[0][0] == 'id' else None
     return bytes([kind]) + body, id, printable(' '.join(rest[len(fields):]))
 
