@@ -91,7 +91,7 @@ def main(words):
         # what is left in the buffer goes nowhere, also not when Python ends
         os.dup2(os.open(os.devnull, os.O_WRONLY), sys.stdout.fileno())
         gone = isinstance(why, BrokenPipeError)
-        return ACCEPTED if gone else told(f'cannot write: {why.strerror}', BROKEN)
+        return ACCEPTED if gone else told(f'{why.filename or "cannot write"}: {why.strerror}', BROKEN)
     except Exception as why:
         place = traceback.extract_tb(why.__traceback__)[-1]
         name = os.path.basename(place.filename)

@@ -31,8 +31,8 @@ def arguments(parser):
 
 
 def run(args):
-    table, plan = records.read_table(args.table), args.own_plan and records.read_plan(args.own_plan)
-    proved = library.load()
+    table, proved = records.read_table(args.table), library.load()
+    plan = None if args.own_plan is None else records.read_plan(args.own_plan)
     answer = proved.check(table.data, plan.data) if plan else proved.plan(table.data)
     files.write(args.table_out, table.data)
     if not args.json:

@@ -4,6 +4,7 @@ import os
 from .. import files, library, records, shown
 from ..picture import Picture
 from ..refusals import Refusal
+from ..troubles import ACCEPTED
 from ..words import quoted
 
 NAME = 'picture'
@@ -30,5 +31,6 @@ def run(args):
     text = '\n'.join(Picture(title, table.names, records.layout_of(table.data, answer)).lines()) + '\n'
     if args.out:
         files.write(args.out, text.encode('utf-8'))
-        return shown.ACCEPTED
-    return shown.accept(args, {}, [text.rstrip('\n')])
+    else:
+        print(text, end='')
+    return ACCEPTED
