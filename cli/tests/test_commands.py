@@ -195,6 +195,11 @@ class Refusals(Case):
             found = re.findall(r'ZB_([A-Z]+)(?: = 1)?,? +/\* (.*?) \*/', file.read())
         self.assertEqual(found, [refusals.REFUSALS[number] for number in sorted(refusals.REFUSALS)])
 
+    def test_the_c_example_has_the_same_words(self):
+        with open(os.path.join(TOP, 'examples', 'c', 'plan.c'), encoding='utf-8') as file:
+            found = re.findall(r'"([A-Z]+)"', file.read())
+        self.assertEqual(found, [word for word, _ in refusals.REFUSALS.values()])
+
     def test_room(self):
         proved = library.load()
         for given in (False, True):
