@@ -1,1 +1,5 @@
+pub mod Exact
+pub mod Choices
+pub mod Plans
 pub mod Accord
+pub mod Prints

@@ -1,1 +1,2 @@
-// The planners and the check agree: what is written is accepted. There is no code here, only the theorem (proofs/Accord.antt).
+// The planners by their own contracts (specs/Exact.antt): what they say exactly when, and that what they write is least of all timetables;
+// and that planners, check and lister agree. There is no code here.

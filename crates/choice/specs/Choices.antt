@@ -2,7 +2,7 @@
 -- Assumes nothing.
 use mathlib.Core.Path.{_≡_}
 use mathlib.Core.Bool.{Bool, true, false, cond}
-use mathlib.Core.List.{List, _++_, map}
+use mathlib.Core.List.{List, [], _∷_, _++_, map}
 use Prim.Native.Nat.{ℕ, _-_, _≤_}
 use lib.ListN.{length, getD, replicate}
 use Rattle.model.specs.declared.Job.{Job}
@@ -11,7 +11,9 @@ use Rattle.model.specs.Timetable.{isEither, Met}
 use Rattle.model.specs.FreeOrder.{LeastDeadline}
 use Rattle.model.specs.Recurrence.{Cell, empty, cell, orderOf, base}
 use Rattle.model.specs.Positions.{noJob, places, digits, marked}
+use Rattle.table.specs.declared.refusal.Refusal.the-variants.{None}
 use Rattle.table.specs.Limits.{mostJobs, largestTime}
+use Rattle.table.specs.Refusals.{refusalSays}
 use Rattle.table.specs.Tables.{TimesOk}
 use Rattle.choice.specs.declared.Prepared.{Prepared}
 use Rattle.choice.specs.declared.Found.{Found}
@@ -66,3 +68,13 @@ pub record Tells (said : Bool) (P : Type 0) : Type 0 where
 abbrev pub IsEarliest : List Job → EarliestMet → Type 0
 IsEarliest js (MetAt d) = LeastDeadline largestTime js d
 IsEarliest js NeverMet = ¬ (Met largestTime js)
+
+-- Number and values: 0 with the mask, or with the deadline; else NONE's.
+
+abbrev pub foundSays : Found → List ℕ
+foundSays (Mask m) = 0 ∷ m ∷ []
+foundSays Nothing = refusalSays None
+
+abbrev pub earliestSays : EarliestMet → List ℕ
+earliestSays (MetAt d) = 0 ∷ d ∷ []
+earliestSays NeverMet = refusalSays None

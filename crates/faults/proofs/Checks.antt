@@ -1,4 +1,5 @@
--- `checkPlan` says of every table and plan exactly what they come to (`check-is`): the refusal of the first fault, or a pass. Assumes nothing.
+-- Every table and plan come to something (`check-there`): the refusal of the first fault, or a pass. And that is what the check says of them (`check-read`).
+-- Assumes nothing.
 use Prim.Native.Nat.{ℕ, _+_}
 use native.Mathlib.Omega.{arith}
 use mathlib.Core.Path.{_≡_, refl, sym, ap, subst, _∙_}
@@ -14,14 +15,14 @@ use Rattle.model.specs.Lists.{All}
 use Rattle.model.specs.Timetable.{Chosen, Allowed, isEither, span}
 use Rattle.model.specs.FreeOrder.{Fits, busy, lastFrom}
 use Rattle.model.specs.Laying.{chosen}
-use Rattle.model.specs.Run.{Took, RunOf, OnTime}
+use Rattle.model.specs.Run.{OnTime}
 use Rattle.model.proofs.Lists.{clash, all-map, all-append, all-of-map}
 use Rattle.model.proofs.PlanOrder.{jobOf as theJob}
 use Rattle.model.proofs.Runs.{fits-iff-runs}
 use Rattle.model.proofs.Bounds.{fits-last}
 use Rattle.table.specs.declared.refusal.Refusal.{Refusal}
 use Rattle.table.specs.declared.refusal.Refusal.the-variants.{Stranger, Kept, Left, Late}
-use Rattle.table.specs.Refusals.{refusalSays, Outcome, accepted, refused}
+use Rattle.table.specs.Refusals.{Outcome, accepted, refused}
 use Rattle.table.specs.Records.{used}
 use Rattle.table.specs.Tables.{JobTable, GoodTable, jobId}
 use Rattle.table.proofs.Listed.{Distinct, unused-differs, differs-unused}
@@ -32,12 +33,10 @@ use Rattle.judge.specs.declared.Checked.{Checked}
 use Rattle.judge.specs.declared.Checked.the-variants.{Passes, Fails}
 use Rattle.judge.specs.Check.{jobOf, chosenBy, before, listed, lacksOne, timed, afterPlan, afterTable, checkPlan}
 use Rattle.judge.proofs.Jobs.{job-found, Named, perm-members, listed-from, lacks-that, none-left, all-or-left}
-use Rattle.faults.specs.Faults.{TableIs, PlanIs, Placed}
-use Rattle.faults.specs.Checks.{StepFault, stranger, kept, StepOk, PlanOf, fullRun, Misfit, at-step, left, late, CheckIs, no-table, no-plan, misfit, passes}
-use Rattle.faults.proofs.Files.{exactly, exactly-one}
-use Rattle.faults.proofs.Tables.{Byte, table-or-fault, table-read}
+use Rattle.faults.specs.Faults.{Byte, TableIs, PlanIs}
+use Rattle.faults.specs.Checks.{StepFault, stranger, kept, RunsOnTime, StepOk, PlanOf, fullRun, Misfit, at-step, left, late, CheckIs, no-table, no-plan, misfit, passes}
+use Rattle.faults.proofs.Tables.{table-or-fault, table-read}
 use Rattle.faults.proofs.Plans.{plan-or-fault, plan-read}
-use Rattle.faults.proofs.Numbers.{table-placed, plan-placed}
 
 -- the run at full entries is on time exactly when the jobs fit
 full-iff : (D t : ℕ) (cs : List Chosen) → OnTime D t (fullRun cs) ↔ Fits D t cs
@@ -144,21 +143,21 @@ module _ (t : JobTable) (good : GoodTable t) where
 
   -- a plan of the table's jobs is judged by its run at full entries
   module _ (cs : List Chosen) (plan : PlanOf js cs) where
-    plan-judged : afterPlan t (accepted (stepsFor cs)) ≡ timed (t .deadline) cs
+    pub plan-judged : afterPlan t (accepted (stepsFor cs)) ≡ timed (t .deadline) cs
     plan-judged =
         rw (
           listed-from js cs (plan .allowed) (named js (good .distinct) cs (all-of-map theJob _ cs (perm-members (plan .each)))),
           none-left js cs (plan .each),
         )
 
-    plan-late : ¬ OnTime (t .deadline) 0 (fullRun cs) → afterPlan t (accepted (stepsFor cs)) ≡ Fails Late
+    pub plan-late : ¬ OnTime (t .deadline) 0 (fullRun cs) → afterPlan t (accepted (stepsFor cs)) ≡ Fails Late
     plan-late out = plan-judged ∙ step (leb (lastFrom 0 cs) (t .deadline)) refl
       where
         step : (b : Bool) → leb (lastFrom 0 cs) (t .deadline) ≡ b → cond b (Passes (lastFrom 0 cs) (busy cs)) (Fails Late) ≡ Fails Late
         step true e = absurd (out (full-iff (t .deadline) 0 cs .1 (fits-last (t .deadline) 0 cs .1 (leb-true _ _ e))))
         step false e = refl
 
-    plan-passes : ((rs : List Took) → RunOf cs rs → OnTime (t .deadline) 0 rs) → afterPlan t (accepted (stepsFor cs)) ≡ Passes (lastFrom 0 cs) (busy cs)
+    pub plan-passes : RunsOnTime (t .deadline) cs → afterPlan t (accepted (stepsFor cs)) ≡ Passes (lastFrom 0 cs) (busy cs)
     plan-passes runs = plan-judged ∙ rw (le-leb _ _ (fits-last (t .deadline) 0 cs .0 (fits-iff-runs (t .deadline) cs .1 runs)))
 
   misfit-read : {xs : List Step} {f : Refusal} → Misfit t xs f → afterPlan t (accepted xs) ≡ Fails f
@@ -174,7 +173,7 @@ module _ (t : JobTable) (good : GoodTable t) where
   misfit-read (late cs plan out) = plan-late cs plan out
 
 -- what they come to is what the check says
-check-read : (s p : List ℕ) (c : Checked) → CheckIs s p c → checkPlan s p ≡ c
+pub check-read : (s p : List ℕ) (c : Checked) → CheckIs s p c → checkPlan s p ≡ c
 unfolding checkPlan
 check-read s p c (no-table {f} y) = rw (table-read s (refused f) y)
 check-read s p c (no-plan t {f} table y) = rw (table-read s (accepted t) table, plan-read p (refused f) y)
@@ -183,7 +182,7 @@ check-read s p c (passes t cs table plan of runs) =
     ap (afterTable p) (table-read s (accepted t) table) ∙ (ap (afterPlan t) (plan-read p (accepted (stepsFor cs)) plan) ∙ plan-passes t (table .0) cs of runs)
 
 -- and they come to something
-check-there : (s p : List ℕ) → All Byte s → (c : Checked) × CheckIs s p c
+pub check-there : (s p : List ℕ) → All Byte s → (c : Checked) × CheckIs s p c
 check-there s p bytes = of-table (table-or-fault s bytes)
   where
     timely : (t : JobTable) → TableIs s (accepted t) → (cs : List Chosen) → PlanIs p (accepted (stepsFor cs)) → PlanOf (t .jobs) cs → (b : Bool) → leb (lastFrom 0 cs) (t .deadline) ≡ b → (c : Checked) × CheckIs s p c
@@ -214,25 +213,3 @@ check-there s p bytes = of-table (table-or-fault s bytes)
 
     of-table : (o : Outcome JobTable) × TableIs s o → (c : Checked) × CheckIs s p c
     of-table o = elim (o .0) as (λ q. TableIs s q → (c : Checked) × CheckIs s p c) [ accepted t ↦ λ table. of-plan t table (plan-or-fault p) | refused f ↦ λ y. (Fails f, no-table y) ] (o .1)
-
-pub check-is : (s p : List ℕ) → All Byte s → (c : Checked) → (checkPlan s p ≡ c) ↔ CheckIs s p c
-check-is s p bytes = exactly (CheckIs s p) (checkPlan s p) (check-there s p bytes) (check-read s p)
-
--- exactly one of all answers is it
-pub check-one : (s p : List ℕ) → All Byte s → (c : Checked) × CheckIs s p c × ((d : Checked) → CheckIs s p d → c ≡ d)
-check-one s p bytes = exactly-one (CheckIs s p) (checkPlan s p) (check-there s p bytes) (check-read s p)
-
--- the check's own refusals, which have no place: the table and the plan are good, and the plan does not fit the table
-pub own-refusal :
-    (s p : List ℕ) → All Byte s → (f : Refusal) (n : ℕ) → refusalSays f ≡ n ∷ [] →
-    (checkPlan s p ≡ Fails f) ↔ ((t : JobTable) × (xs : List Step) × TableIs s (accepted t) × PlanIs p (accepted xs) × Misfit t xs f)
-own-refusal s p bytes f n one-number = ((λ e. go (check-is s p bytes (Fails f) .0 e) refl), (λ r. check-is s p bytes (Fails f) .1 (misfit (r .0) (r .1) (r .2) (r .3) (r .4))))
-  where
-    no-place : {P : Type 0} (l : List ℕ) (g : Refusal) → Placed l g → g ≡ f → P
-    no-place l g y same = clash (cc (y .says, ap refusalSays same, one-number))
-
-    go : {c : Checked} → CheckIs s p c → c ≡ Fails f → (t : JobTable) × (xs : List Step) × TableIs s (accepted t) × PlanIs p (accepted xs) × Misfit t xs f
-    go (no-table {f = g} y) e = no-place s g (table-placed y) (cc)
-    go (no-plan t {f = g} table y) e = no-place p g (plan-placed y) (cc)
-    go (misfit t xs {f = g} table plan y) e = let same : g ≡ f = cc in (t, xs, table, plan, subst (Misfit t xs) same y)
-    go (passes t cs table plan of runs) e = clash (cc)

@@ -8,20 +8,20 @@ use mathlib.Core.Bool.{Bool, true, false}
 use mathlib.Core.List.{List, [], _∷_, _++_, map, flatMap, List·Memᴰ, List·Memᴰ·head, List·Memᴰ·tail, append-nil, append-assoc}
 use mathlib.Core.Option.{Option, none, some}
 use lib.ListN.{length, getD, drop, length-append, length-drop}
-use lib.Seq.{append-snoc, getD-drop, drop-drop, drop-at}
+use lib.Seq.{getD-drop, drop-at}
 use lib.Dec.{eqb, ltb}
 use borrow.Author.Tests.{eqb-true, eqb-false, ltb-true, ltb-false, lt-leb}
 use native.Mathlib.Nat.{add-zero}
 use Rattle.model.specs.Lists.{All}
-use Rattle.model.proofs.Lists.{all-map, all-append, all-of-map, map-all, pairwise-append}
+use Rattle.model.proofs.Lists.{all-map, all-append, all-of-map, pairwise-append}
 use Rattle.table.specs.declared.refusal.Refusal.{Refusal}
 use Rattle.table.specs.declared.refusal.Refusal.the-variants.{Range, Many}
 use Rattle.table.specs.declared.kind.Meaning.{Meaning}
 use Rattle.table.specs.Limits.{mostJobs}
-use Rattle.table.specs.Refusals.{place, Outcome, refused}
-use Rattle.table.specs.Records.{formOf, judged, Entry, one, last, bad, used, listFrom}
+use Rattle.table.specs.Refusals.{place, refused}
+use Rattle.table.specs.Records.{formOf, judged, Entry, one, last, bad, listFrom}
 use Rattle.table.proofs.Records as records
-use Rattle.table.proofs.Listed.{Distinct, list-step, pairwise-seam, unused-differs, differs-unused}
+use Rattle.table.proofs.Listed.{used-member, flat-more, list-step, readOn, good-read}
 use Rattle.judge.proofs.Jobs.{member-all}
 use Rattle.faults.specs.Faults.{Unread, no-byte, not-allowed, cut, Faulty, unread, many, range, twice, after, GoodList, ListFault, fault}
 
@@ -71,13 +71,6 @@ unread-or-whole kinds at (k ∷ more) = step (known kinds k)
         ((f : Refusal) × Unread kinds at (k ∷ more) f) ⊎ Whole kinds (k ∷ more)
     step (inl h) = inl (_, not-allowed h)
     step (inr h) = fits (h .0) (h .1) (ltb (length more) (h .0)) refl
-
--- the bytes of a list, and of one more
-module _ {A : Type 0} (bytesOf : A → List ℕ) where
-  flat-more : (xs : List A) (x : A) (rest : List ℕ) → flatMap bytesOf (xs ++ (x ∷ [])) ++ rest ≡ flatMap bytesOf xs ++ (bytesOf x ++ rest)
-  unfolding flatMap
-  flat-more [] x rest = simp append-nil
-  flat-more (y ∷ xs) x rest = simp (append-assoc, flat-more xs x rest)
 
 -- Every file is told. `Byte` is what is known of each byte; a whole record is one that is listed, or the end.
 module _
@@ -175,14 +168,6 @@ module _
       let known = member-all _ these m in
       records.cut refuse read may s at {f = formOf k} (ap formOf (sym (b .0))) (omega (arith, b .1)) (known .0) (known .1) (omega (arith, b .1, known .2))
 
--- an id among those before is used
-used-member : {A : Type 0} (idOf : A → ℕ) (xs : List A) (id : ℕ) → List·Memᴰ id (map idOf xs) → used (map idOf xs) id ≡ true
-used-member idOf xs id m = step (used (map idOf xs) id) refl
-  where
-    step : (b : Bool) → used (map idOf xs) id ≡ b → b ≡ true
-    step true e = refl
-    step false e = absurd (member-all (λ (i : ℕ). ¬ (i ≡ id)) (map-all idOf _ xs (unused-differs idOf xs id e)) m refl)
-
 -- A list with a fault is refused for it, where the reader of one record refuses for what is wrong with the record, and reads what is not.
 module _
     {A : Type 0} (idOf : A → ℕ) (bytesOf : A → List ℕ) (InRange : A → Type 0) (kinds : List (ℕ × ℕ)) (end : ℕ) (s : List ℕ) (entryAt : ℕ → ℕ → Entry A)
@@ -191,36 +176,14 @@ module _
     (is-range : (at n : ℕ) (x : A) (more : List ℕ) → drop at s ≡ bytesOf x ++ more → n < mostJobs → ¬ InRange x → entryAt at n ≡ bad (Range (place at)))
     (is-one : (at n : ℕ) (x : A) (more : List ℕ) → drop at s ≡ bytesOf x ++ more → n < mostJobs → InRange x → entryAt at n ≡ one x (at + length (bytesOf x)))
     (is-end : (at n : ℕ) (more : List ℕ) → drop at s ≡ end ∷ more → entryAt at n ≡ last (at + 1)) where
-  abbrev from : List A → ℕ → Outcome (List A)
-  from xs at = listFrom idOf entryAt (length s) (suc mostJobs - length xs) xs at
-
-  faulty-refused : (xs : List A) (at : ℕ) {rest : List ℕ} {f : Refusal} → length xs ≤ mostJobs → Faulty idOf bytesOf InRange kinds end xs at rest f → drop at s ≡ rest → from xs at ≡ refused f
+  faulty-refused : (xs : List A) (at : ℕ) {rest : List ℕ} {f : Refusal} → length xs ≤ mostJobs → Faulty idOf bytesOf InRange kinds end xs at rest f → drop at s ≡ rest → readOn idOf s entryAt bytesOf xs at ≡ refused f
   faulty-refused xs at {rest} {f} few (unread u) e = list-step idOf entryAt (length s) xs at few ∙ rw (is-unread at (length xs) rest f u e)
   faulty-refused xs at few (many x more h) e = list-step idOf entryAt (length s) xs at few ∙ rw (is-many at (length xs) x more e (omega arith))
   faulty-refused xs at few (range x more h out) e = list-step idOf entryAt (length s) xs at few ∙ rw (is-range at (length xs) x more e h out)
-  faulty-refused xs at few (twice x more h ok m) e = list-step idOf entryAt (length s) xs at few ∙ rw (is-one at (length xs) x more e h ok, used-member idOf xs (idOf x) m)
+  faulty-refused xs at few (twice x more h ok m) e = list-step idOf entryAt (length s) xs at few ∙ rw (is-one at (length xs) x more e h ok, used-member (map idOf xs) (idOf x) m)
   faulty-refused xs at few (after {b} {more}) e =
       let long : length s - at ≡ suc (suc (length more)) = sym (length-drop at s) ∙ ap length e in
       list-step idOf entryAt (length s) xs at few ∙ rw (is-end at (length xs) (b ∷ more) e, lt-leb (length s) (at + 1) (omega arith))
-
-  -- what is good before it is read
-  good-read :
-      (ys xs : List A) (at : ℕ) (rest : List ℕ) → length xs + length ys ≤ mostJobs → Distinct idOf (xs ++ ys) → All InRange ys →
-      drop at s ≡ flatMap bytesOf ys ++ rest → from xs at ≡ from (xs ++ ys) (at + length (flatMap bytesOf ys))
-  unfolding flatMap
-  good-read [] xs at rest few distinct good e = rw (append-nil, add-zero)
-  good-read (y ∷ ys) xs at rest few distinct good e =
-      let p = at + length (bytesOf y) in
-      let more : length (xs ++ (y ∷ [])) ≡ length xs + 1 = length-append xs (y ∷ []) in
-      let left : mostJobs - length xs ≡ suc mostJobs - length (xs ++ (y ∷ [])) = omega arith in
-      let once : used (map idOf xs) (idOf y) ≡ false = differs-unused idOf xs (idOf y) (pairwise-seam _ xs y ys distinct) in
-      let here : drop at s ≡ bytesOf y ++ (flatMap bytesOf ys ++ rest) = e ∙ append-assoc (bytesOf y) (flatMap bytesOf ys) rest in
-      let then : drop p s ≡ flatMap bytesOf ys ++ rest =
-      sym (drop-drop (length (bytesOf y)) at s) ∙ (ap (drop (length (bytesOf y))) here ∙ drop-at (bytesOf y) (flatMap bytesOf ys ++ rest) (length (bytesOf y)) refl) in
-      let at-end : p + length (flatMap bytesOf ys) ≡ at + length (bytesOf y ++ flatMap bytesOf ys) = omega (arith, length-append (bytesOf y) (flatMap bytesOf ys)) in
-      list-step idOf entryAt (length s) xs at (omega arith) ∙
-      rw (is-one at (length xs) y _ here (omega arith) (good .0), once, left)
-      (good-read ys (xs ++ (y ∷ [])) p rest (omega arith) (rw append-snoc distinct) (good .1) then ∙ rw (append-snoc, at-end))
 
   pub fault-refused : {first u : List ℕ} {f : Refusal} → ListFault idOf bytesOf InRange kinds end first u f → u ≡ s → listFrom idOf entryAt (length s) (suc mostJobs) [] (length first) ≡ refused f
   fault-refused {first} (fault xs rest good y) e =
@@ -228,7 +191,7 @@ module _
       ap (drop (length first)) (sym e ∙ append-assoc first (flatMap bytesOf xs) rest) ∙ drop-at first (flatMap bytesOf xs ++ rest) (length first) refl in
       let there : drop (length (first ++ flatMap bytesOf xs)) s ≡ rest =
       ap (drop (length (first ++ flatMap bytesOf xs))) (sym e) ∙ drop-at (first ++ flatMap bytesOf xs) rest _ refl in
-      good-read xs [] (length first) rest (omega (arith, good .few)) (good .distinct) (good .each) begun ∙
+      good-read idOf s entryAt bytesOf InRange is-one xs [] (length first) rest (omega (arith, good .few)) (good .distinct) (good .each) begun ∙
       rw (← length-append) (faulty-refused xs (length (first ++ flatMap bytesOf xs)) (good .few) y there)
 
 -- What is so of some answer, and of no other than r, is so of r alone; so it is so of exactly one.

@@ -3,3 +3,4 @@ pub mod Plans
 pub mod Tables
 pub mod Numbers
 pub mod Checks
+pub mod Says

@@ -2,7 +2,7 @@
 use Prim.Native.Nat.{ℕ, _+_, _≤_}
 use native.Mathlib.Omega.{arith}
 use mathlib.Core.Path.{_≡_, refl, sym, ap, subst, _∙_}
-use mathlib.Core.Logic.{_⊎_, inl, inr, _↔_, Iff·trans}
+use mathlib.Core.Logic.{_⊎_, inl, inr, _↔_}
 use mathlib.Core.Bool.{Bool, true, false, cond}
 use mathlib.Core.List.{List, [], _∷_, _++_, flatMap}
 use mathlib.Core.Option.{none, some}
@@ -16,14 +16,14 @@ use Rattle.table.specs.declared.kind.StepKind.{StepKind}
 use Rattle.table.specs.declared.kind.StepKind.the-variants.{HereStep, AwayStep, EndStep}
 use Rattle.table.specs.declared.kind.Form.{Form}
 use Rattle.table.specs.Limits.{mostJobs}
-use Rattle.table.specs.Refusals.{refusalSays, place, Outcome, accepted, refused}
-use Rattle.table.specs.Records.{formOf, stepOnly, last, bad}
+use Rattle.table.specs.Refusals.{place, Outcome, accepted, refused}
+use Rattle.table.specs.Records.{formOf, stepOnly, bad}
 use Rattle.table.proofs.Records.{stepByte, form-all}
 use Rattle.plan.specs.declared.Step.{Step}
 use Rattle.plan.specs.declared.RecordRead.the-variants.{RecordRefused}
-use Rattle.plan.specs.Plans.{stepBody, recordAt, stepEntry, stepId, readPlan, planRead, planReadSays, stepBytes, planBytes}
+use Rattle.plan.specs.Plans.{stepBody, recordAt, stepEntry, stepId, readPlan, stepBytes}
 use Rattle.plan.proofs.Steps.{planEntry}
-use Rattle.plan.proofs.Plans.{opens, step-back, plan-back, reading-says}
+use Rattle.plan.proofs.Plans.{plan-flat, opens, step-back, end-back, plan-back}
 use Rattle.judge.proofs.Jobs.{member-all}
 use Rattle.faults.specs.Faults.{stepKinds, Unread, NoTimes, GoodPlan, PlanFault, PlanIs}
 use Rattle.faults.proofs.Files.{Whole, listed-or-fault, unread-refused, fault-refused, exactly, exactly-one}
@@ -73,14 +73,6 @@ module _ (s : List ℕ) (at n : ℕ) where
       go true b = ap stepEntry (opens s at n AwayStep (x .id ∷ more) b (omega arith)) ∙ simp (le-ltb n mostJobs h)
       go false b = ap stepEntry (opens s at n HereStep (x .id ∷ more) b (omega arith)) ∙ simp (le-ltb n mostJobs h)
 
-  is-end : (more : List ℕ) → drop at s ≡ 0x2F ∷ more → planEntry s at n ≡ last (at + 1)
-  is-end more e = ap stepEntry (opens s at n EndStep more e (omega arith))
-
-plan-flat : (xs : List Step) → planBytes xs ≡ flatMap stepBytes xs ++ (0x2F ∷ [])
-unfolding planBytes flatMap
-plan-flat [] = refl
-plan-flat (x ∷ xs) = ap (λ (l : List ℕ). stepBytes x ++ l) (plan-flat xs)
-
 -- every byte string is a plan's or has a fault
 pub plan-or-fault : (s : List ℕ) → (o : Outcome (List Step)) × PlanIs s o
 plan-or-fault s = step (listed-or-fault stepId stepBytes NoTimes stepKinds 0x2F Any (λ x. inl tt) record-is [] s (all-all (λ b. tt) s))
@@ -95,7 +87,7 @@ unfolding readPlan
 plan-read s (accepted xs) p = rw (p .1) (plan-back xs (p .0 .few) (p .0 .distinct))
 plan-read s (refused f) y =
     fault-refused stepId stepBytes NoTimes stepKinds 0x2F s (planEntry s)
-    (is-unread s) (is-many s) (λ at n x more e h out. absurd (out tt)) (λ at n x more e h ok. step-back s at n x more tt h e) (is-end s) y refl
+    (is-unread s) (is-many s) (λ at n x more e h out. absurd (out tt)) (λ at n x more e h ok. step-back s at n x more e h) (end-back s) y refl
 
 pub plan-is : (s : List ℕ) (o : Outcome (List Step)) → (readPlan s ≡ o) ↔ PlanIs s o
 plan-is s = exactly (PlanIs s) (readPlan s) (plan-or-fault s) (plan-read s)
@@ -103,14 +95,3 @@ plan-is s = exactly (PlanIs s) (readPlan s) (plan-or-fault s) (plan-read s)
 -- exactly one of all plans and refusals is it
 pub plan-one : (s : List ℕ) → (o : Outcome (List Step)) × PlanIs s o × ((p : Outcome (List Step)) → PlanIs s p → o ≡ p)
 plan-one s = exactly-one (PlanIs s) (readPlan s) (plan-or-fault s) (plan-read s)
-
--- the same told apart
-pub plan-accepted : (s : List ℕ) (xs : List Step) → (readPlan s ≡ accepted xs) ↔ (GoodPlan xs × (s ≡ planBytes xs))
-plan-accepted s xs = plan-is s (accepted xs)
-
-pub plan-refused : (s : List ℕ) (f : Refusal) → (readPlan s ≡ refused f) ↔ PlanFault s f
-plan-refused s f = plan-is s (refused f)
-
--- and in numbers
-pub plan-says : (s : List ℕ) (f : Refusal) → (planReadSays (planRead (readPlan s)) ≡ refusalSays f) ↔ PlanFault s f
-plan-says s f = Iff·trans (reading-says s f) (plan-refused s f)

@@ -2,7 +2,7 @@
 use Prim.Native.Nat.{ℕ, _+_, _*_, _≤_, _<_}
 use native.Mathlib.Omega.{arith}
 use mathlib.Core.Path.{_≡_, refl, sym, ap, subst, _∙_}
-use mathlib.Core.Logic.{_⊎_, inl, inr, _↔_, Iff·trans}
+use mathlib.Core.Logic.{_⊎_, inl, inr, _↔_}
 use mathlib.Core.Bool.{Bool, true, false, cond, _&&_}
 use mathlib.Core.List.{List, [], _∷_, _++_, flatMap, append-assoc}
 use mathlib.Core.Option.{none, some}
@@ -22,20 +22,16 @@ use Rattle.table.specs.declared.kind.Form.{Form}
 use Rattle.table.specs.declared.FrameRead.the-variants.{Deadline, FrameRefused}
 use Rattle.table.specs.declared.JobRead.the-variants.{JobRefused}
 use Rattle.table.specs.Limits.{mostJobs, largestTime}
-use Rattle.table.specs.Refusals.{refusalSays, place, Outcome, accepted, refused}
-use Rattle.table.specs.Records.{formOf, frameOnly, rowOnly, last, bad}
-use Rattle.table.specs.Tables.{JobTable, TimesOk, GoodTable, timeOk, deadlineAt, frameAt, rowBody, jobAt, jobEntry, jobId, jobsRead, afterFrame, withDeadline, readTable, tableRead, verdictSays, wordBytes, sendingBytes, jobBytes, jobsBytes, tableBytes}
+use Rattle.table.specs.Refusals.{place, Outcome, accepted, refused}
+use Rattle.table.specs.Records.{formOf, frameOnly, rowOnly, bad}
+use Rattle.table.specs.Tables.{JobTable, TimesOk, timeOk, deadlineAt, frameAt, rowBody, jobAt, jobEntry, jobId, jobsRead, afterFrame, withDeadline, readTable, wordBytes, sendingBytes, jobBytes, tableBytes}
 use Rattle.table.proofs.Records.{rowByte, form-all, frame-form, opened}
 use Rattle.table.proofs.Tables.{both, rowEntry}
-use Rattle.table.proofs.Written.{word-parts}
-use Rattle.table.proofs.ReadBack.{word, row-open, job-back, word-whole, bytes-read}
-use Rattle.table.proofs.Reading.{reading-says}
+use Rattle.table.proofs.Written.{word-parts, jobs-flat}
+use Rattle.table.proofs.ReadBack.{word, row-open, job-back, end-back, word-whole, bytes-read}
 use Rattle.judge.proofs.Jobs.{member-all}
-use Rattle.faults.specs.Faults.{frameKinds, rowKinds, Unread, ListFault, fault, GoodList, DeadlineOk, frameBytes, TableFault, in-frame, deadline, in-row, TableIs}
+use Rattle.faults.specs.Faults.{Byte, frameKinds, rowKinds, Unread, ListFault, fault, GoodList, DeadlineOk, frameBytes, TableFault, in-frame, deadline, in-row, TableIs}
 use Rattle.faults.proofs.Files.{Whole, unread-or-whole, listed-or-fault, unread-refused, fault-refused, exactly, exactly-one}
-
-abbrev pub Byte : ℕ → Type 0
-Byte b = b < 256
 
 -- two bytes are a number's
 word-is : (l : List ℕ) → 2 ≤ length l → All Byte l → (w : ℕ) × (more : List ℕ) × (l ≡ wordBytes w ++ more) × (length l ≡ 2 + length more) × All Byte more
@@ -158,20 +154,12 @@ module _ (s : List ℕ) (at n : ℕ) where
       row-open s at l e n EitherRow refl (omega arith) ∙
       simp (lt-ltb n mostJobs h, word s at l e 2, word s at l e 4, word s at l e 6, word-whole C, word-whole S, word-whole I, out)
 
-  is-end : (more : List ℕ) → drop at s ≡ 0x1F ∷ more → rowEntry s at n ≡ last (at + 1)
-  is-end more e = row-open s at (0x1F ∷ more) e n EndRow refl (omega arith)
-
 frame-reads : (D : ℕ) (more : List ℕ) → frameAt (frameBytes D ++ more) ≡ cond (ltb 0 D && timeOk D) (Deadline D) (FrameRefused (Range (place 0)))
 unfolding frameAt
 frame-reads D more =
     let s = frameBytes D ++ more in
     opened FrameRefused (λ (u : Unit {0}). deadlineAt s) frameOnly s 0 (sym frame-form) (omega arith) tt refl (omega arith) ∙
     simp (word-whole D)
-
-jobs-flat : (js : List Job) → jobsBytes js ≡ flatMap jobBytes js ++ (0x1F ∷ [])
-unfolding jobsBytes flatMap
-jobs-flat [] = refl
-jobs-flat (j ∷ js) = ap (λ (l : List ℕ). jobBytes j ++ l) (jobs-flat js) ∙ sym (append-assoc (jobBytes j) (flatMap jobBytes js) (0x1F ∷ []))
 
 table-flat : (D : ℕ) (js : List Job) → tableBytes (record { deadline = D; jobs = js }) ≡ frameBytes D ++ flatMap jobBytes js ++ (0x1F ∷ [])
 unfolding tableBytes
@@ -218,7 +206,7 @@ fault-read {s} {f} (in-row D ok y) =
     fault-refused jobId jobBytes TimesOk rowKinds 0x1F s (rowEntry s)
     (is-unread s) (λ at n j m e h. is-many s at n (j .id) (j .local) (j .sending) m e h)
     (λ at n j m e h out. is-range s at n (j .id) (j .local) (j .sending) m e h (fails _ (fine-iff (j .id) (j .local) (j .sending)) out))
-    (λ at n j m e h ok. job-back s at n m (j .id) (j .local) (j .sending) e ok h) (is-end s) y refl in
+    (λ at n j m e h ok. job-back s at n m (j .id) (j .local) (j .sending) e ok h) (end-back s) y refl in
     ap (afterFrame s) first ∙ ap (withDeadline D) jobs
 
 pub table-read : (s : List ℕ) (o : Outcome JobTable) → TableIs s o → readTable s ≡ o
@@ -231,14 +219,3 @@ table-is s bytes = exactly (TableIs s) (readTable s) (table-or-fault s bytes) (t
 -- exactly one of all tables and refusals is it
 pub table-one : (s : List ℕ) → All Byte s → (o : Outcome JobTable) × TableIs s o × ((p : Outcome JobTable) → TableIs s p → o ≡ p)
 table-one s bytes = exactly-one (TableIs s) (readTable s) (table-or-fault s bytes) (table-read s)
-
--- the same told apart
-pub table-accepted : (s : List ℕ) → All Byte s → (t : JobTable) → (readTable s ≡ accepted t) ↔ (GoodTable t × (s ≡ tableBytes t))
-table-accepted s bytes t = table-is s bytes (accepted t)
-
-pub table-refused : (s : List ℕ) → All Byte s → (f : Refusal) → (readTable s ≡ refused f) ↔ TableFault s f
-table-refused s bytes f = table-is s bytes (refused f)
-
--- and in numbers
-pub table-says : (s : List ℕ) → All Byte s → (f : Refusal) → (verdictSays (tableRead (readTable s) .verdict) ≡ refusalSays f) ↔ TableFault s f
-table-says s bytes f = Iff·trans (reading-says s f) (table-refused s bytes f)

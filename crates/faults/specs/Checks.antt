@@ -1,9 +1,9 @@
 -- Document 01, 'The check' and 'Refusal numbers': what a table and a plan come to, told with neither reader nor check.
 -- That `checkPlan` says exactly this is proved in proofs/Checks.antt. Assumes nothing.
-use Prim.Native.Nat.{ℕ}
+use Prim.Native.Nat.{ℕ, _≤_}
 use mathlib.Core.Path.{_≡_}
 use mathlib.Core.Bool.{true, false}
-use mathlib.Core.List.{List, _∷_, _++_, map, List·Memᴰ, List·Permᴰ}
+use mathlib.Core.List.{List, [], _∷_, _++_, map, List·Memᴰ, List·Permᴰ}
 use Rattle.model.specs.declared.Job.{Job}
 use Rattle.model.specs.Lists.{All}
 use Rattle.model.specs.Timetable.{Chosen, Allowed, isEither, span, wait}
@@ -17,7 +17,12 @@ use Rattle.plan.specs.declared.Step.{Step}
 use Rattle.draft.specs.Drafts.{stepOf, stepsFor}
 use Rattle.judge.specs.declared.Checked.{Checked}
 use Rattle.judge.specs.declared.Checked.the-variants.{Passes, Fails}
-use Rattle.faults.specs.Faults.{TableFault, PlanFault, TableIs, PlanIs}
+use Rattle.judge.specs.Check.{checkedSays}
+use Rattle.faults.specs.Faults.{TableFault, PlanFault, TableIs, PlanIs, Placed}
+
+-- every permitted run of the jobs, in this order and with these choices, is on time
+abbrev pub RunsOnTime : ℕ → List Chosen → Type 0
+RunsOnTime D cs = (rs : List Took) → RunOf cs rs → OnTime D 0 rs
 
 -- "STRANGER: plan names an id that the table lacks. KEPT: plan sends a here-only job away."
 pub data StepFault (js : List Job) (x : Step) : Refusal → Type 0 where
@@ -52,4 +57,25 @@ pub data CheckIs (s p : List ℕ) : Checked → Type 0 where
   misfit : (t : JobTable) (xs : List Step) {f : Refusal} → TableIs s (accepted t) → PlanIs p (accepted xs) → Misfit t xs f → CheckIs s p (Fails f)
   passes :
       (t : JobTable) (cs : List Chosen) → TableIs s (accepted t) → PlanIs p (accepted (stepsFor cs)) → PlanOf (t .jobs) cs →
-      ((rs : List Took) → RunOf cs rs → OnTime (t .deadline) 0 rs) → CheckIs s p (Passes (lastFrom 0 cs) (busy cs))
+      RunsOnTime (t .deadline) cs → CheckIs s p (Passes (lastFrom 0 cs) (busy cs))
+
+-- the same in numbers: 0, last finish and busy total; 1 to 6 and a place; 8 STRANGER, 9 KEPT, 10 LEFT, 11 LATE
+abbrev pub CheckSays : List ℕ → List ℕ → List ℕ → Type 0
+CheckSays s p ns = (c : Checked) × CheckIs s p c × (checkedSays c ≡ ns)
+
+-- what a pass with these figures means
+pub record Passed (s p figures : List ℕ) : Type 0 where
+  pub t : JobTable
+  pub cs : List Chosen
+  pub table : TableIs s (accepted t)
+  pub plan : PlanIs p (accepted (stepsFor cs))
+  pub exactly : PlanOf (t .jobs) cs
+  pub runs : RunsOnTime (t .deadline) cs
+  pub says : figures ≡ lastFrom 0 cs ∷ busy cs ∷ []
+
+-- which numbers there are: of a pass; of a fault in the table or in the plan; of a plan that does not fit its table
+pub data CheckNumbers (s p : List ℕ) (ns : List ℕ) : Type 0 where
+  of-pass : (last busy : ℕ) → ns ≡ 0 ∷ last ∷ busy ∷ [] → CheckNumbers s p ns
+  of-table : Placed s ns → CheckNumbers s p ns
+  of-plan : Placed p ns → CheckNumbers s p ns
+  of-misfit : (n : ℕ) → 8 ≤ n → n ≤ 11 → ns ≡ n ∷ [] → CheckNumbers s p ns

@@ -14,6 +14,10 @@ use Rattle.table.specs.Tables.{JobTable, TimesOk, GoodTable, jobId, wordBytes, 
 use Rattle.plan.specs.declared.Step.{Step}
 use Rattle.plan.specs.Plans.{stepId, stepBytes, planBytes}
 
+-- a byte
+abbrev pub Byte : ℕ → Type 0
+Byte b = b < 256
+
 -- "One byte of kind, then a body whose length the kind fixes": the kinds that may stand first in a table, those that may stand after it, and those of a plan
 abbrev pub frameKinds : List (ℕ × ℕ)
 frameKinds = (0x10, 2) ∷ []
@@ -85,11 +89,20 @@ abbrev pub PlanIs : List ℕ → Outcome (List Step) → Type 0
 PlanIs s (accepted xs) = GoodPlan xs × (s ≡ planBytes xs)
 PlanIs s (refused f) = PlanFault s f
 
--- "1 to 6 return number and place": the place is in the file, or its length
-pub record Placed (s : List ℕ) (f : Refusal) : Type 0 where
+-- What a reader says of it in numbers: 0 for a table; 0 and the number of steps for a plan; else the fault's number and place.
+pub data TableSays (s : List ℕ) : List ℕ → Type 0 where
+  a-table : (t : JobTable) → TableIs s (accepted t) → TableSays s (0 ∷ [])
+  no-table : (f : Refusal) → TableFault s f → TableSays s (refusalSays f)
+
+pub data PlanSays (s : List ℕ) : List ℕ → Type 0 where
+  a-plan : (xs : List Step) → PlanIs s (accepted xs) → PlanSays s (0 ∷ length xs ∷ [])
+  no-plan : (f : Refusal) → PlanFault s f → PlanSays s (refusalSays f)
+
+-- "1 to 6 return number and place": the numbers of a fault, whose place is in the file or is its length
+pub record Placed (s ns : List ℕ) : Type 0 where
   pub number : ℕ
   pub place : ℕ
-  pub says : refusalSays f ≡ number ∷ place ∷ []
+  pub says : ns ≡ number ∷ place ∷ []
   pub low : 1 ≤ number
   pub high : number ≤ 6
   pub within : place ≤ length s

@@ -21,7 +21,7 @@ use Rattle.table.specs.declared.refusal.Refusal.the-variants.{Kept}
 use Rattle.table.specs.Refusals.{Outcome, accepted, refused}
 use Rattle.table.specs.Records.{used}
 use Rattle.table.specs.Tables.{jobId}
-use Rattle.table.proofs.Listed.{Distinct}
+use Rattle.table.proofs.Listed.{Distinct, used-member}
 use Rattle.plan.specs.declared.Step.{Step}
 use Rattle.plan.specs.Plans.{stepId}
 use Rattle.draft.specs.Drafts.{stepOf, stepsFor}
@@ -142,12 +142,7 @@ listed-from js (c ∷ cs) a h = rw (h .0, listed-from js cs (a .1) (h .1)) (step
     step false true k = refl
     step false false k = refl
 
--- "LEFT: plan lacks a job of the table": an id that a step has is used, and one that no step has is not
-used-member : (ids : List ℕ) (id : ℕ) → List·Memᴰ id ids → used ids id ≡ true
-unfolding used
-used-member (i ∷ ids) id (List·Memᴰ·head e) = rw (eq-eqb i id (sym e))
-used-member (i ∷ ids) id (List·Memᴰ·tail m) = rw (used-member ids id m) (or-true (eqb i id))
-
+-- "LEFT: plan lacks a job of the table": an id that no step has is not used
 unused : (cs : List Chosen) (id : ℕ) → All (λ (c : Chosen). ¬ (id ≡ c .job .id)) cs → used (map stepId (stepsFor cs)) id ≡ false
 unfolding used
 unused [] id h = refl

@@ -61,12 +61,6 @@ module _
       let r = runs-last (t .deadline) cs in
       (λ e. r .1 (v .0 (sym judged ∙ e)), λ h. judged ∙ v .1 (r .0 h))
 
-  pub late-iff : (checkPlan s p ≡ Fails Late) ↔ ¬ ((rs : List Took) → RunOf cs rs → OnTime (t .deadline) 0 rs)
-  late-iff =
-      let v = timed-tells (t .deadline) cs .1 in
-      let r = runs-last (t .deadline) cs in
-      (λ e h. v .0 (sym judged ∙ e) (r .0 h), λ n. judged ∙ v .1 (λ k. n (r .1 k)))
-
   -- the plan lists each job of the table once, with an allowed choice
   pub exactly-its-jobs : ((ds : List Chosen) × List·Permᴰ cs ds × Choice (t .jobs) ds) × (stepsFor cs ≡ xs)
   exactly-its-jobs =

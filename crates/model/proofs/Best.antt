@@ -1,19 +1,19 @@
 -- The planner's answer is the best choice, or there is no workable one; and there is only one best choice.
 -- Assumes nothing.
 use mathlib.Core.Path.{_≡_, refl, sym, ap, subst, _∙_}
-use mathlib.Core.Logic.{inl, inr, _↔_}
+use mathlib.Core.Logic.{inl, inr, _↔_, ⊎-elim}
 use mathlib.Core.List.{List, [], _∷_, map, reverse, reverse-reverse}
 use Prim.Native.Nat.{ℕ, _+_, _≤_}
 use native.Mathlib.Omega.{arith}
 use lib.ListN.{length, length-map}
 use Rattle.model.specs.declared.Job.{Job}
 use Rattle.model.specs.Lists.{total}
-use Rattle.model.specs.Timetable.{Chosen, Met}
-use Rattle.model.specs.FreeOrder.{Choice, awayOrder, Workable, busy, fromLast, Keeps, Ahead, Best}
+use Rattle.model.specs.Timetable.{Chosen, Placed, Timetable, Meets, Met}
+use Rattle.model.specs.FreeOrder.{Choice, awayOrder, Workable, busy, spans, fromLast, Keeps, Ahead, Best}
 use Rattle.model.specs.Recurrence.{answer, Cell, empty, cell, base, orderOf, mask, maskOf}
 use Rattle.model.proofs.Lists.{clash}
 use Rattle.model.proofs.PlanOrder.{jobOf, jobs}
-use Rattle.model.proofs.Timetables.{timetable-iff-workable}
+use Rattle.model.proofs.Timetables.{what, spans-what, timetable-choice, timetable-iff-workable}
 use Rattle.model.proofs.Least.{LexLe, IsLeast, least-iff}
 use Rattle.model.proofs.Rows.{setupPart, herePart, Feasible, job-count}
 use Rattle.model.proofs.Columns.{Total, total-least}
@@ -161,3 +161,9 @@ module _ (D : ℕ) (js : List Job) where
       from : (c : Cell) → answer D js ≡ c → ¬ (Met D js) → answer D js ≡ empty
       from empty e f = e
       from (cell a m) e f = let r = answer-best a m e in absurd (f (timetable-iff-workable D js .1 (r .0, r .1 .choice, r .1 .workable)))
+
+  -- no timetable that meets D has a smaller sum of spans
+  pub best-least : (cs : List Chosen) → Best D js cs → (ps : List Placed) → Timetable js ps → Meets D ps → busy cs ≤ spans ps
+  best-least cs b ps t m =
+      let c = timetable-choice D js ps t m in
+      ⊎-elim (λ h. omega (arith, h, spans-what ps)) (λ h. omega (arith, h .0, spans-what ps)) (b .ahead (map what ps) (c .0) (c .1))

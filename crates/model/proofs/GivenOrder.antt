@@ -12,11 +12,11 @@ use lib.Dec.{T, leb, ltb}
 use Rattle.model.specs.declared.Job.{Job}
 use Rattle.model.specs.Lists.{All, Pairwise}
 use Rattle.model.specs.Timetable.{isEither, setupTime, returnTime, Chosen, Allowed, Placed, span, spanEnd, wait, Meets}
-use Rattle.model.specs.FreeOrder.{Choice, laid, Fits, busy}
+use Rattle.model.specs.FreeOrder.{Choice, laid, Fits, busy, spans}
 use Rattle.model.specs.GivenOrder.{InOrder, MetInOrder, goes, decide, put, given, KeepsAll, BestInOrder}
 use Rattle.model.proofs.Lists.{clash, all-map, all-all, all-of-map, map-all}
 use Rattle.model.proofs.PlanOrder.{jobs}
-use Rattle.model.proofs.Timetables.{what, jobs-what, laid-what, laid-from}
+use Rattle.model.proofs.Timetables.{what, jobs-what, spans-what, laid-what, laid-from}
 use Rattle.model.proofs.Choices.{chosen-path}
 
 -- One step of the algorithm.
@@ -250,3 +250,15 @@ module _ (D : ℕ) (js : List Job) where
           let p : x ≡ y = chosen-path x y (cc) (same (x .away) (y .away) (k .0) (l .0)) in
           let q : xs ≡ ys = both-keep xs ys (cc) (k .1) (l .1) in
           cc
+
+  -- it is Algorithm 1's plan
+  pub best-is-given : (cs : List Chosen) → BestInOrder D js cs → given D 0 js ≡ some cs
+  best-is-given cs b =
+      let r = against cs (b .choice) (b .fits) in
+      r .1 ∙ ap some (best-in-order-unique (r .0) cs (given-best (r .0) (r .1)) b)
+
+  -- no timetable in table order that meets D has a smaller sum of spans
+  pub best-in-order-least : (cs : List Chosen) → BestInOrder D js cs → (ps : List Placed) → InOrder js ps → Meets D ps → busy cs ≤ spans ps
+  best-in-order-least cs b ps i m =
+      let c = inorder-choice ps i m in
+      omega (arith, b .less (map what ps) (c .0) (c .1), spans-what ps)

@@ -9,7 +9,7 @@ use native.Mathlib.Nat.{add-comm}
 use Rattle.model.specs.declared.Job.{Job}
 use Rattle.model.specs.Lists.{greatest, All, Pairwise, total}
 use Rattle.model.specs.Timetable.{Chosen, Allowed, Placed, span, spanEnd, Apart, Timetable, wait, finish, Meets, Met}
-use Rattle.model.specs.FreeOrder.{Choice, plan, Fits, Workable, busy, lastFinish}
+use Rattle.model.specs.FreeOrder.{Choice, plan, laid, Fits, Workable, busy, spans, lastFinish}
 use Rattle.model.proofs.Lists.{all-map, all-zip, all-all, all-of-map, map-all, pairwise-of-map}
 use Rattle.model.proofs.Permutations.{all-perm, pairwise-perm, total-perm, greatest-perm, perm-lift}
 use Rattle.model.proofs.Intervals.{packed}
@@ -55,7 +55,12 @@ fits D pre (q ∷ ps) a b c m = (
         packed (λ (p : Placed). p .start) spanEnd (λ (p : Placed). span (p .what)) (λ p. omega arith) (q ∷ pre) (D - wait (q .what)) pairs
         (omega (arith, m .0), all-map (λ p k. omega (arith, k .1)) pre (b .0))
 
-timetable-choice : (D : ℕ) (js : List Job) (ps : List Placed) → Timetable js ps → Meets D ps → Choice js (map what ps) × Workable D (map what ps)
+-- the spans of a timetable are those of its choice
+pub spans-what : (ps : List Placed) → busy (map what ps) ≡ spans ps
+spans-what [] = refl
+spans-what (p ∷ ps) = ap (λ (n : ℕ). span (p .what) + n) (spans-what ps)
+
+pub timetable-choice : (D : ℕ) (js : List Job) (ps : List Placed) → Timetable js ps → Meets D ps → Choice js (map what ps) × Workable D (map what ps)
 timetable-choice D js ps t m =
     let cs = map what ps in
     let al : All Allowed cs = map-all what Allowed ps (t .allowed) in
@@ -70,10 +75,6 @@ timetable-choice D js ps t m =
     )
 
 -- From a workable choice to a timetable.
-
-abbrev pub laid : ℕ → List Chosen → List Placed
-laid t [] = []
-laid t (c ∷ cs) = record { what = c; start = t } ∷ laid (t + span c) cs
 
 pub laid-what : (t : ℕ) (cs : List Chosen) → map what (laid t cs) ≡ cs
 laid-what t [] = refl
@@ -95,10 +96,10 @@ laid-meets D t (c ∷ cs) h = (h .0, laid-meets D (t + span c) cs (h .1))
 pub record PlanTimetable (js : List Job) (cs : List Chosen) (ps : List Placed) : Type 0 where
   pub timetable : Timetable js ps
   pub same : List·Permᴰ (laid 0 (plan cs)) ps
-  pub spans : total (λ (p : Placed). span (p .what)) ps ≡ busy cs
+  pub spans : spans ps ≡ busy cs
   pub last : greatest finish ps ≡ lastFinish cs
 
-laid-spans : (t : ℕ) (cs : List Chosen) → total (λ (p : Placed). span (p .what)) (laid t cs) ≡ busy cs
+pub laid-spans : (t : ℕ) (cs : List Chosen) → spans (laid t cs) ≡ busy cs
 laid-spans t [] = refl
 laid-spans t (c ∷ cs) = omega (arith, laid-spans (t + span c) cs)
 

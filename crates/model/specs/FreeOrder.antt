@@ -48,6 +48,10 @@ Workable D cs = Fits D 0 (plan cs)
 abbrev pub busy : List Chosen → ℕ
 busy cs = total span cs
 
+-- the sum of a timetable's spans
+abbrev pub spans : List Placed → ℕ
+spans ps = total (λ (p : Placed). span (p .what)) ps
+
 -- "Ties: walk the either jobs from the last in away order to the first; at the first place where two choices differ, the one that keeps the job here wins."
 
 -- the choices of the either jobs, from the last in away order to the first

@@ -3,18 +3,19 @@
 use Prim.Native.Nat.{ℕ, zero, suc, _+_, _-_, _≤_, _<_}
 use mathlib.Core.Path.{_≡_, refl, sym, ap, subst, _∙_}
 use mathlib.Core.Bool.{Bool, true, false, cond, _||_, or-true, or-false, or-assoc}
-use mathlib.Core.List.{List, [], _∷_, _++_, map, append-nil}
-use lib.ListN.{length, getD, set, drop, replicate, length-append, length-set, length-replicate, getD-replicate, drop-of-length-le}
+use mathlib.Core.List.{List, [], _∷_, _++_, map, flatMap, List·Memᴰ, List·Memᴰ·head, List·Memᴰ·tail, append-nil, append-assoc}
+use lib.ListN.{length, getD, set, drop, replicate, length-append, length-set, length-replicate, length-drop, getD-replicate, drop-of-length-le}
 use lib.Seq.{append-snoc, set-append-seam, getD-set-same, getD-set-other, drop-drop, drop-at}
 use lib.Dec.{leb, eqb}
+use native.Mathlib.Nat.{add-zero}
 use native.Mathlib.Omega.{arith}
-use borrow.Author.Tests.{leb-true, le-leb, eqb-true, eqb-false, ne-eqb}
+use borrow.Author.Tests.{leb-true, le-leb, eqb-true, eqb-false, eq-eqb, ne-eqb}
 use Rattle.model.specs.Lists.{All, Pairwise}
 use Rattle.model.proofs.Lists.{clash, pairwise-append, all-map}
 use Rattle.table.specs.declared.refusal.Refusal.{Refusal}
 use Rattle.table.specs.declared.refusal.Refusal.the-variants.{Twice, After}
 use Rattle.table.specs.Limits.{mostJobs}
-use Rattle.table.specs.Refusals.{place, accepted, refused}
+use Rattle.table.specs.Refusals.{place, Outcome, accepted, refused}
 use Rattle.table.specs.Records.{Entry, one, last, bad, used, follow, listFrom}
 
 -- one more id
@@ -22,6 +23,12 @@ used-more : (is : List ℕ) (i id : ℕ) → used (is ++ (i ∷ [])) id ≡ (use
 unfolding used
 used-more [] i id = or-false (eqb i id)
 used-more (k ∷ is) i id = rw (used-more is i id) (sym (or-assoc (eqb k id) (used is id) (eqb i id)))
+
+-- an id that is among them is used
+pub used-member : (ids : List ℕ) (id : ℕ) → List·Memᴰ id ids → used ids id ≡ true
+unfolding used
+used-member (i ∷ ids) id (List·Memᴰ·head e) = rw (eq-eqb i id (sym e))
+used-member (i ∷ ids) id (List·Memᴰ·tail m) = rw (used-member ids id m) (or-true (eqb i id))
 
 neither : (a b : Bool) → (a || b) ≡ false → (a ≡ false) × (b ≡ false)
 neither true b e = (cc, cc)
@@ -57,14 +64,13 @@ module _ {A : Type 0} where
       let room : n - length xs ≡ suc (n - (length xs + 1)) = omega arith in
       rw (room, more) (set-append-seam xs d (replicate (n - (length xs + 1)) d) x ∙ sym (append-snoc xs x (replicate (n - (length xs + 1)) d)))
 
-  -- the bytes of each of a list, and then `end`
-  abbrev pub joined : (A → List ℕ) → List A → List ℕ → List ℕ
-  joined bytesOf [] end = end
-  joined bytesOf (x ∷ xs) end = bytesOf x ++ joined bytesOf xs end
-
-  joined-more : (bytesOf : A → List ℕ) (xs : List A) (x : A) (end : List ℕ) → joined bytesOf (xs ++ (x ∷ [])) end ≡ joined bytesOf xs (bytesOf x ++ end)
-  joined-more bytesOf [] x end = refl
-  joined-more bytesOf (y ∷ xs) x end = ap (λ (l : List ℕ). bytesOf y ++ l) (joined-more bytesOf xs x end)
+  -- the bytes of a list, and of one more
+  pub flat-more :
+      (bytesOf : A → List ℕ) (xs : List A) (x : A) (rest : List ℕ) →
+      flatMap bytesOf (xs ++ (x ∷ [])) ++ rest ≡ flatMap bytesOf xs ++ (bytesOf x ++ rest)
+  unfolding flatMap
+  flat-more bytesOf [] x rest = simp append-nil
+  flat-more bytesOf (y ∷ xs) x rest = simp (append-assoc, flat-more bytesOf xs x rest)
 
   -- of a list with x in it: what holds of each holds of x, and what holds of every two holds of each before it and x
   all-seam : (P : A → Type 0) (xs : List A) (x : A) (ys : List A) → All P (xs ++ (x ∷ ys)) → P x
@@ -193,42 +199,59 @@ module _ {A : Type 0} (idOf : A → ℕ) (entryAt : ℕ → ℕ → Entry A) (si
       (suc mostJobs) [] start (omega arith, tt)
 
 -- The bytes of a list: of each that is listed, in order, and of the end record, where each kind of record tells its bytes.
-module _ {A : Type 0} (idOf : A → ℕ) (s : List ℕ) (entryAt : ℕ → ℕ → Entry A) (bytesOf : A → List ℕ) (endBytes : List ℕ) where
+module _ {A : Type 0} (idOf : A → ℕ) (s : List ℕ) (entryAt : ℕ → ℕ → Entry A) (bytesOf : A → List ℕ) where
   -- an accepted list stands in s, from `start` on, and nothing after it
   pub listed-bytes :
+      (endBytes : List ℕ) →
       ((at n : ℕ) (x : A) (p : ℕ) → entryAt at n ≡ one x p → drop at s ≡ bytesOf x ++ drop p s) →
       ((at n p : ℕ) → entryAt at n ≡ last p → drop at s ≡ endBytes ++ drop p s) →
-      (start : ℕ) (xs : List A) → listFrom idOf entryAt (length s) (suc mostJobs) [] start ≡ accepted xs → drop start s ≡ joined bytesOf xs endBytes
-  listed-bytes one-bytes end-bytes start =
+      (start : ℕ) (xs : List A) → listFrom idOf entryAt (length s) (suc mostJobs) [] start ≡ accepted xs → drop start s ≡ flatMap bytesOf xs ++ endBytes
+  unfolding flatMap
+  listed-bytes endBytes one-bytes end-bytes start =
       listed-all idOf entryAt (length s)
-      (λ (xs : List A) (at : ℕ). drop start s ≡ joined bytesOf xs (drop at s)) (λ (xs : List A). drop start s ≡ joined bytesOf xs endBytes)
-      (λ xs at x p i a u. i ∙ (ap (joined bytesOf xs) (one-bytes at (length xs) x p a) ∙ sym (joined-more bytesOf xs x (drop p s))))
-      (λ xs at p i a h. i ∙ ap (joined bytesOf xs) (end-bytes at (length xs) p a ∙ rw (drop-of-length-le s {i = p} h) (append-nil endBytes)))
+      (λ (xs : List A) (at : ℕ). drop start s ≡ flatMap bytesOf xs ++ drop at s) (λ (xs : List A). drop start s ≡ flatMap bytesOf xs ++ endBytes)
+      (λ xs at x p i a u. i ∙ (ap (λ (l : List ℕ). flatMap bytesOf xs ++ l) (one-bytes at (length xs) x p a) ∙ sym (flat-more bytesOf xs x (drop p s))))
+      (λ xs at p i a h. i ∙ ap (λ (l : List ℕ). flatMap bytesOf xs ++ l) (end-bytes at (length xs) p a ∙ rw (drop-of-length-le s {i = p} h) (append-nil endBytes)))
       (suc mostJobs) [] start refl
+
+  -- what is to be read from `at` on, where xs stands before
+  abbrev pub readOn : List A → ℕ → Outcome (List A)
+  readOn xs at = listFrom idOf entryAt (length s) (suc mostJobs - length xs) xs at
 
   module _
       (Good : A → Type 0)
-      (reads : (at n : ℕ) (x : A) (rest : List ℕ) → Good x → n < mostJobs → drop at s ≡ bytesOf x ++ rest → entryAt at n ≡ one x (at + length (bytesOf x)))
-      (ends : (at n : ℕ) → drop at s ≡ endBytes → entryAt at n ≡ last (length s)) where
-    back-from :
-        (xs before : List A) (at : ℕ) → length before + length xs ≤ mostJobs → Distinct idOf (before ++ xs) → All Good xs →
-        drop at s ≡ joined bytesOf xs endBytes → listFrom idOf entryAt (length s) (suc mostJobs - length before) before at ≡ accepted (before ++ xs)
-    back-from [] before at few distinct good e =
-        list-step idOf entryAt (length s) before at (omega arith) ∙
-        rw (ends at (length before) e, le-leb (length s) (length s) (omega arith), append-nil before)
-    back-from (x ∷ xs) before at few distinct good e =
-        let p = at + length (bytesOf x) in
-        let more : length (before ++ (x ∷ [])) ≡ length before + 1 = length-append before (x ∷ []) in
-        let left : mostJobs - length before ≡ suc mostJobs - length (before ++ (x ∷ [])) = omega arith in
-        let once : used (map idOf before) (idOf x) ≡ false = differs-unused idOf before (idOf x) (pairwise-seam _ before x xs distinct) in
-        let after : drop p s ≡ joined bytesOf xs endBytes =
-        sym (drop-drop (length (bytesOf x)) at s) ∙ (ap (drop (length (bytesOf x))) e ∙ drop-at (bytesOf x) (joined bytesOf xs endBytes) (length (bytesOf x)) refl) in
-        list-step idOf entryAt (length s) before at (omega arith) ∙
-        rw (reads at (length before) x (joined bytesOf xs endBytes) (good .0) (omega arith) e, once, left)
-        (back-from xs (before ++ (x ∷ [])) p (omega arith) (rw append-snoc distinct) (good .1) after ∙ rw append-snoc)
+      (reads : (at n : ℕ) (x : A) (rest : List ℕ) → drop at s ≡ bytesOf x ++ rest → n < mostJobs → Good x → entryAt at n ≡ one x (at + length (bytesOf x))) where
+    -- the bytes of a good list are read as that list, whatever follows them
+    pub good-read :
+        (ys xs : List A) (at : ℕ) (rest : List ℕ) → length xs + length ys ≤ mostJobs → Distinct idOf (xs ++ ys) → All Good ys →
+        drop at s ≡ flatMap bytesOf ys ++ rest → readOn xs at ≡ readOn (xs ++ ys) (at + length (flatMap bytesOf ys))
+    unfolding flatMap
+    good-read [] xs at rest few distinct good e = rw (append-nil, add-zero)
+    good-read (y ∷ ys) xs at rest few distinct good e =
+        let p = at + length (bytesOf y) in
+        let more : length (xs ++ (y ∷ [])) ≡ length xs + 1 = length-append xs (y ∷ []) in
+        let left : mostJobs - length xs ≡ suc mostJobs - length (xs ++ (y ∷ [])) = omega arith in
+        let once : used (map idOf xs) (idOf y) ≡ false = differs-unused idOf xs (idOf y) (pairwise-seam _ xs y ys distinct) in
+        let here : drop at s ≡ bytesOf y ++ (flatMap bytesOf ys ++ rest) = e ∙ append-assoc (bytesOf y) (flatMap bytesOf ys) rest in
+        let then : drop p s ≡ flatMap bytesOf ys ++ rest =
+        sym (drop-drop (length (bytesOf y)) at s) ∙
+        (ap (drop (length (bytesOf y))) here ∙ drop-at (bytesOf y) (flatMap bytesOf ys ++ rest) (length (bytesOf y)) refl) in
+        let at-end : p + length (flatMap bytesOf ys) ≡ at + length (bytesOf y ++ flatMap bytesOf ys) =
+        omega (arith, length-append (bytesOf y) (flatMap bytesOf ys)) in
+        list-step idOf entryAt (length s) xs at (omega arith) ∙
+        rw (reads at (length xs) y _ here (omega arith) (good .0), once, left)
+        (good-read ys (xs ++ (y ∷ [])) p rest (omega arith) (rw append-snoc distinct) (good .1) then ∙ rw (append-snoc, at-end))
 
-    -- the bytes of a list, from `start` on with nothing after them, are accepted as that list
+    -- and with the end record behind them and nothing after it they are accepted
     pub listed-back :
+        (end : ℕ) → ((at n : ℕ) (more : List ℕ) → drop at s ≡ end ∷ more → entryAt at n ≡ last (at + 1)) →
         (start : ℕ) (xs : List A) → length xs ≤ mostJobs → Distinct idOf xs → All Good xs →
-        drop start s ≡ joined bytesOf xs endBytes → listFrom idOf entryAt (length s) (suc mostJobs) [] start ≡ accepted xs
-    listed-back start xs few distinct good e = back-from xs [] start (omega arith) distinct good e
+        drop start s ≡ flatMap bytesOf xs ++ (end ∷ []) → listFrom idOf entryAt (length s) (suc mostJobs) [] start ≡ accepted xs
+    listed-back end ends start xs few distinct good e =
+        let at = start + length (flatMap bytesOf xs) in
+        let there : drop at s ≡ end ∷ [] =
+        sym (drop-drop (length (flatMap bytesOf xs)) start s) ∙
+        (ap (drop (length (flatMap bytesOf xs))) e ∙ drop-at (flatMap bytesOf xs) (end ∷ []) (length (flatMap bytesOf xs)) refl) in
+        let size : length s - at ≡ 1 = sym (length-drop at s) ∙ ap length there in
+        good-read xs [] start (end ∷ []) (omega arith) distinct good e ∙
+        (list-step idOf entryAt (length s) xs at few ∙ rw (ends at (length xs) [] there, le-leb (length s) (at + 1) (omega arith)))

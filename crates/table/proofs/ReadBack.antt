@@ -3,7 +3,7 @@
 use Prim.Native.Nat.{ℕ, _+_, _-_, _*_, _%_, _/_, _≤_, _<_}
 use native.Mathlib.Omega.{arith}
 use mathlib.Core.Path.{_≡_, refl, ap, sym, _∙_}
-use mathlib.Core.List.{List, [], _∷_, _++_}
+use mathlib.Core.List.{List, _∷_, _++_}
 use lib.ListN.{length, getD, drop, length-drop}
 use lib.Seq.{getD-drop}
 use borrow.Author.Tests.{lt-ltb, le-leb}
@@ -21,11 +21,11 @@ use Rattle.table.specs.Tables.{JobTable, TimesOk, GoodTable, deadlineAt,
 use Rattle.table.proofs.Records.{rowByte, rowLength, frame-form, row-form, opened}
 use Rattle.table.proofs.Listed.{listed-back}
 use Rattle.table.proofs.Tables.{rowEntry}
-use Rattle.table.proofs.Written.{bytes-joined}
+use Rattle.table.proofs.Written.{jobs-flat}
 
 -- What the bytes `l` from a place on say of the whole: its bytes and words there, and its length.
 module _ (s : List ℕ) (at : ℕ) (l : List ℕ) (from : drop at s ≡ l) where
-  peek : (i : ℕ) → getD s (at + i) 0 ≡ getD l i 0
+  pub peek : (i : ℕ) → getD s (at + i) 0 ≡ getD l i 0
   peek i = sym (getD-drop at s i 0) ∙ ap (λ (k : List ℕ). getD k i 0) from
 
   first : getD s at 0 ≡ getD l 0 0
@@ -78,10 +78,8 @@ job-back s at n rest id C (Either S I) from ok few =
       le-leb _ _ (ok .back),
     )
 
-end-back : (s : List ℕ) (at n : ℕ) → drop at s ≡ 0x1F ∷ [] → rowEntry s at n ≡ last (length s)
-end-back s at n from =
-    let after : at + 1 ≡ length s = omega (arith, long s at (0x1F ∷ []) from) in
-    rw (← after) (row-open s at (0x1F ∷ []) from n EndRow refl (omega arith))
+pub end-back : (s : List ℕ) (at n : ℕ) (more : List ℕ) → drop at s ≡ 0x1F ∷ more → rowEntry s at n ≡ last (at + 1)
+end-back s at n more from = row-open s at (0x1F ∷ more) from n EndRow refl (omega arith)
 
 frame-back : (t : JobTable) → GoodTable t → frameAt (tableBytes t) ≡ Deadline (t .deadline)
 unfolding tableBytes frameAt
@@ -96,7 +94,7 @@ bytes-read t good =
     let s = tableBytes t in
     rw (
       frame-back t good,
-      listed-back jobId s (rowEntry s) jobBytes (0x1F ∷ []) TimesOk
-          (λ at n j rest ok few from. job-back s at n rest (j .id) (j .local) (j .sending) from ok few) (end-back s)
-          3 (t .jobs) (good .few) (good .distinct) (good .times) (bytes-joined (t .jobs)),
+      listed-back jobId s (rowEntry s) jobBytes TimesOk
+          (λ at n j rest from few ok. job-back s at n rest (j .id) (j .local) (j .sending) from ok few) 0x1F (end-back s)
+          3 (t .jobs) (good .few) (good .distinct) (good .times) (jobs-flat (t .jobs)),
     )

@@ -1,17 +1,15 @@
 -- What a caller of `read_table` learns from its answer: the refusal, or a sound table that means what was read.
 -- Assumes nothing.
 use mathlib.Core.Path.{_≡_, refl, sym, ap, subst, _∙_}
-use mathlib.Core.Logic.{_↔_}
-use mathlib.Core.List.{List, []}
+use mathlib.Core.List.{List}
 use Prim.Native.Nat.{ℕ}
 use Rattle.model.proofs.Lists.{clash}
 use Rattle.table.specs.declared.refusal.Refusal.{Refusal}
 use Rattle.table.specs.declared.Table.{Table}
 use Rattle.table.specs.declared.TableVerdict.the-variants.{Whole, Refused}
 use Rattle.table.specs.declared.TableRead.{TableRead}
-use Rattle.table.specs.Refusals.{refusalSays, Outcome, accepted, refused}
-use Rattle.table.specs.Tables.{JobTable, readTable, tableRead, jobTable, tableOf, Sound, verdictSays}
-use Rattle.table.proofs.Refusals.{refused-says}
+use Rattle.table.specs.Refusals.{Outcome, accepted, refused}
+use Rattle.table.specs.Tables.{JobTable, readTable, tableRead, jobTable, tableOf, Sound}
 use Rattle.table.proofs.Accepted.{accepted-good, held-table, held-sound}
 
 -- the bytes are a table's, and u holds it
@@ -35,7 +33,3 @@ module _ (s : List ℕ) (r : TableRead) (e : r ≡ tableRead (readTable s)) wher
           let u : r .table ≡ tableOf (t .deadline) (t .jobs) = ap (λ (x : TableRead). x .table) (e ∙ ap tableRead q) in
           subst (WholeRead s) (sym u) (record { is = q ∙ ap accepted (sym (held-table t)); sound = held-sound t (accepted-good s t q) })
       step (refused g) q k = clash (cc)
-
--- the verdict in numbers: the number and the place of a refusal are said exactly where it is given
-pub reading-says : (s : List ℕ) (f : Refusal) → (verdictSays (tableRead (readTable s) .verdict) ≡ refusalSays f) ↔ (readTable s ≡ refused f)
-reading-says s f = refused-says (λ (o : Outcome JobTable). verdictSays (tableRead o .verdict)) (λ (t : JobTable). []) (λ t. refl) (λ g. refl) (readTable s) f

@@ -3,13 +3,12 @@
 use Prim.Native.Nat.{ℕ, _≤_}
 use native.Mathlib.Omega.{arith}
 use mathlib.Core.Path.{_≡_, refl, ap, sym, _∙_}
-use mathlib.Core.Logic.{_↔_}
 use mathlib.Core.List.{List, [], _∷_}
 use lib.ListN.{getD}
 use Rattle.table.specs.declared.refusal.Place.{Place}
 use Rattle.table.specs.declared.refusal.Refusal.{Refusal}
 use Rattle.table.specs.declared.refusal.Refusal.the-variants.{Short, Kind, Range, Many, Twice, After, None, Stranger, Kept, Left, Late, Phase, Number, Clock, Who, Value, Early, Room}
-use Rattle.table.specs.Refusals.{place, refusalSays, Outcome, accepted, refused}
+use Rattle.table.specs.Refusals.{place, refusalSays}
 
 -- the refusals in the order of their numbers, from 1
 inOrder : Place → List Refusal
@@ -67,14 +66,3 @@ says-numbered Room = omega arith
 
 pub says-not-zero : (f : Refusal) (ns : List ℕ) → refusalSays f ≡ 0 ∷ ns → ⊥
 says-not-zero f ns e = omega (arith, says-numbered f, ap (λ (l : List ℕ). getD l 0 0) e)
-
--- An answer that says 0 first where something is accepted, and else what its refusal says, tells by its numbers what was refused.
-module _ {A : Type 0} (says : Outcome A → List ℕ) (numbers : A → List ℕ)
-    (yes-says : (a : A) → says (accepted a) ≡ 0 ∷ numbers a) (no-says : (f : Refusal) → says (refused f) ≡ refusalSays f)
-  where
-    pub refused-says : (o : Outcome A) (f : Refusal) → (says o ≡ refusalSays f) ↔ (o ≡ refused f)
-    refused-says o f = (told o, λ e. ap says e ∙ no-says f)
-      where
-        told : (o : Outcome A) → says o ≡ refusalSays f → o ≡ refused f
-        told (accepted a) e = absurd (says-not-zero f (numbers a) (sym e ∙ yes-says a))
-        told (refused g) e = ap refused (says-injective g f (sym (no-says g) ∙ e))

@@ -1,19 +1,16 @@
--- A byte string that is accepted is exactly the bytes of its table, so that no two are accepted as the same table;
--- it has at most 260 bytes. Assumes nothing.
-use Prim.Native.Nat.{ℕ, zero, suc, _+_, _*_, _%_, _/_, _≤_, _<_}
-use native.Mathlib.Numerals.{add-one}
+-- The bytes of a number and of a table's jobs, and that a byte string which is accepted has at most 260. That it is exactly the bytes of its table
+-- is told by `table-is` of crate faults. Assumes nothing.
+use Prim.Native.Nat.{ℕ, suc, _+_, _*_, _%_, _/_, _≤_, _<_}
 use native.Mathlib.Omega.{arith}
 use mathlib.Core.Path.{_≡_, refl, ap, sym, _∙_}
-use mathlib.Core.List.{List, [], _∷_, _++_}
-use lib.ListN.{length, getD, drop, length-append}
-use lib.Seq.{drop-cons}
+use mathlib.Core.List.{List, [], _∷_, _++_, flatMap, append-assoc}
+use lib.ListN.{length, length-append}
 use Rattle.model.specs.declared.Job.{Job}
-use Rattle.model.specs.Lists.{All}
 use Rattle.table.specs.Limits.{mostJobs, longestTable}
 use Rattle.table.specs.Refusals.{accepted}
-use Rattle.table.specs.Records.{wordAt, one, last}
-use Rattle.table.specs.Tables.{JobTable, jobId, jobsRead, readTable, wordBytes, jobBytes, jobsBytes, tableBytes}
-use Rattle.table.proofs.Listed.{joined, listed-all, listed-bytes}
+use Rattle.table.specs.Records.{one, last}
+use Rattle.table.specs.Tables.{JobTable, jobId, jobsRead, readTable, wordBytes, jobBytes, jobsBytes}
+use Rattle.table.proofs.Listed.{listed-all}
 use Rattle.table.proofs.Tables.{rowEntry, RowIs, row-here, row-either, row-end, row-is, row-few}
 use Rattle.table.proofs.Accepted.{accepted-read}
 
@@ -24,74 +21,11 @@ word-parts a b h =
     let high : (a + 256 * b) / 256 ≡ b = omega arith in
     rw (low, high)
 
-module _ (s : List ℕ) (bytes : All (λ (b : ℕ). b < 256) s) where
-  below : (i : ℕ) → getD s i 0 < 256
-  below = go s bytes
-    where
-      go : (l : List ℕ) → All (λ (b : ℕ). b < 256) l → (i : ℕ) → getD l i 0 < 256
-      go [] a i = omega arith
-      go (x ∷ l) a zero = a .0
-      go (x ∷ l) a (suc i) = go l (a .1) i
-
-  byte-here : (at : ℕ) → at < length s → drop at s ≡ getD s at 0 ∷ drop (at + 1) s
-  byte-here at h = rw add-one (drop-cons s at 0 h)
-
-  word-here : (at : ℕ) → at + 1 < length s → drop at s ≡ wordBytes (wordAt s at) ++ drop (at + 2) s
-  word-here at h =
-      let next : at + 1 + 1 ≡ at + 2 = omega arith in
-      byte-here at (omega arith) ∙
-      (ap (λ (l : List ℕ). getD s at 0 ∷ l) (byte-here (at + 1) h ∙ rw next) ∙
-      sym (ap (λ (w : List ℕ). w ++ drop (at + 2) s) (word-parts (getD s at 0) (getD s (at + 1) 0) (below at))))
-
-  -- the bytes of a job's record: kind, id and C, and then S and I
-  job-bytes : (at : ℕ) → at + 4 ≤ length s → drop at s ≡ getD s at 0 ∷ getD s (at + 1) 0 ∷ (wordBytes (wordAt s (at + 2)) ++ drop (at + 4) s)
-  job-bytes at h =
-      let two : at + 1 + 1 ≡ at + 2 = omega arith in
-      let four : at + 2 + 2 ≡ at + 4 = omega arith in
-      byte-here at (omega arith) ∙
-      ap (λ (l : List ℕ). getD s at 0 ∷ l)
-      (byte-here (at + 1) (omega arith) ∙ rw two (ap (λ (l : List ℕ). getD s (at + 1) 0 ∷ l) (word-here (at + 2) (omega arith) ∙ rw four)))
-
-  times-bytes : (at : ℕ) → at + 8 ≤ length s → drop (at + 4) s ≡ wordBytes (wordAt s (at + 4)) ++ (wordBytes (wordAt s (at + 6)) ++ drop (at + 8) s)
-  times-bytes at h =
-      let six : at + 4 + 2 ≡ at + 6 = omega arith in
-      let eight : at + 6 + 2 ≡ at + 8 = omega arith in
-      word-here (at + 4) (omega arith) ∙
-      rw six (ap (λ (l : List ℕ). wordBytes (wordAt s (at + 4)) ++ l) (word-here (at + 6) (omega arith) ∙ rw eight))
-
-  -- the bytes of a job that is read, and of the end
-  row-bytes : {at n : ℕ} {j : Job} {p : ℕ} → RowIs s at n (one j p) → drop at s ≡ jobBytes j ++ drop p s
-  row-bytes {at} (row-here b h few t) = rw (← b) (job-bytes at h)
-  row-bytes {at} (row-either b h few t u v) = rw (← b, ← times-bytes at h) (job-bytes at (omega arith))
-
-  end-bytes : {at n p : ℕ} → RowIs s at n (last p) → drop at s ≡ (0x1F ∷ []) ++ drop p s
-  end-bytes {at} (row-end b h) = rw (← b) (byte-here at (omega arith))
-
--- the bytes of the jobs are those of each job, and then the end record's
-pub bytes-joined : (js : List Job) → jobsBytes js ≡ joined jobBytes js (0x1F ∷ [])
-unfolding jobsBytes
-bytes-joined [] = refl
-bytes-joined (j ∷ js) = ap (λ (l : List ℕ). jobBytes j ++ l) (bytes-joined js)
-
-pub read-bytes : (s : List ℕ) (t : JobTable) → All (λ (b : ℕ). b < 256) s → readTable s ≡ accepted t → tableBytes t ≡ s
-unfolding tableBytes jobsRead
-read-bytes s t bytes e =
-    let r = accepted-read s t e in
-    let whole : 3 ≤ length s = r .whole in
-    let first : drop 0 s ≡ 0x10 ∷ drop 1 s = rw (← r .kind) (byte-here s bytes 0 (omega arith)) in
-    let rest : drop 3 s ≡ jobsBytes (t .jobs) =
-    listed-bytes jobId s (rowEntry s) jobBytes (0x1F ∷ [])
-    (λ at n j p x. row-bytes s bytes (row-is s at n x)) (λ at n p x. end-bytes s bytes (row-is s at n x)) 3 (t .jobs) (r .jobs) ∙
-    sym (bytes-joined (t .jobs)) in
-    sym
-    (first ∙
-    ap (λ (l : List ℕ). 0x10 ∷ l)
-    (word-here s bytes 1 (omega arith) ∙ rw (← r .deadline) (ap (λ (l : List ℕ). wordBytes (t .deadline) ++ l) rest)))
-
-pub read-injective :
-    (s u : List ℕ) (t : JobTable) → All (λ (b : ℕ). b < 256) s → All (λ (b : ℕ). b < 256) u →
-    readTable s ≡ accepted t → readTable u ≡ accepted t → s ≡ u
-read-injective s u t bs bu e f = sym (read-bytes s t bs e) ∙ read-bytes u t bu f
+-- the bytes of a table are its frame record's, those of each job, and the end record's
+pub jobs-flat : (js : List Job) → jobsBytes js ≡ flatMap jobBytes js ++ (0x1F ∷ [])
+unfolding jobsBytes flatMap
+jobs-flat [] = refl
+jobs-flat (j ∷ js) = ap (λ (l : List ℕ). jobBytes j ++ l) (jobs-flat js) ∙ sym (append-assoc (jobBytes j) (flatMap jobBytes js) (0x1F ∷ []))
 
 -- a job's record takes at most eight bytes, and the end record one
 row-next : {s : List ℕ} {at n : ℕ} {j : Job} {p : ℕ} → RowIs s at n (one j p) → p ≤ at + 8

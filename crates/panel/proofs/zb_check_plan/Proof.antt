@@ -1,6 +1,7 @@
 -- `panel::zb_check_plan` meets its contract: the check's answer, case by case. Assumes nothing.
 use borrow.Author.Needs.{needs}
 use mathlib.Core.Path.{refl}
+use Rattle.panel.proofs.Numbers.{checked-refused}
 use Rattle.panel.proofs.zb_check_plan.Statement.{statement}
 use Rattle.panel.proofs.zb_check_plan.Tie as tie
 
@@ -26,7 +27,7 @@ returns : tie.Need-returns
 returns c = rw (← c .before .before .before .check-plan .ensures, c .before .last .given .1) refl
 
 returns-2 : tie.Need-returns-2
-returns-2 c = rw (← c .before .before .before .before .check-plan .ensures, c .before .before .f .given .1, c .numbers-of .ensures) refl
+returns-2 c = rw (← c .before .before .before .before .check-plan .ensures) (checked-refused _ _ (c .numbers-of .ensures) _ (c .before .before .f .given .1))
 
 pub zb-check-plan-spec : {M : Type 1} → statement M
 zb-check-plan-spec =

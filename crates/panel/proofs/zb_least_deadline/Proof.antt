@@ -1,6 +1,7 @@
 -- `panel::zb_least_deadline` meets its contract: the planner's answer, case by case. Assumes nothing.
 use borrow.Author.Needs.{needs}
 use mathlib.Core.Path.{refl}
+use Rattle.panel.proofs.Numbers.{least-refused}
 use Rattle.panel.proofs.zb_least_deadline.Statement.{statement}
 use Rattle.panel.proofs.zb_least_deadline.Tie as tie
 
@@ -23,7 +24,7 @@ returns : tie.Need-returns
 returns c = (c .before .before .before .least-deadline .result, c .before .before .before .least-deadline .ensures, rw (c .before .d .given .1) refl)
 
 returns-2 : tie.Need-returns-2
-returns-2 c = (c .before .before .before .before .least-deadline .result, c .before .before .before .before .least-deadline .ensures, rw (c .before .before .f .given .1, c .numbers-of .ensures) refl)
+returns-2 c = (c .before .before .before .before .least-deadline .result, c .before .before .before .before .least-deadline .ensures, least-refused _ _ (c .numbers-of .ensures) _ (c .before .before .f .given .1))
 
 pub zb-least-deadline-spec : {M : Type 1} → statement M
 zb-least-deadline-spec =

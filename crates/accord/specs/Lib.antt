@@ -1,0 +1,3 @@
+pub mod Allows
+pub mod Exact
+pub mod Prints

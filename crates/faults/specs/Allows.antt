@@ -1,0 +1,24 @@
+-- What the own contracts of the readers and of the check allow, as Rattle reads them of src/ (`Reads`' `Learnt`): for these bytes, this answer.
+-- Assumes nothing.
+use Prim.Native.Nat.{ℕ}
+use mathlib.Core.List.{List, []}
+use denote.Ref.{RefT}
+use Rattle.table.specs.declared.TableRead.{TableRead}
+use Rattle.table.proofs as table
+use Rattle.plan.specs.declared.PlanRead.{PlanRead}
+use Rattle.plan.proofs as plan
+use Rattle.judge.specs.declared.Checked.{Checked}
+use Rattle.judge.proofs as judge
+
+-- a reference to these bytes; where they lie, and for how long, no contract speaks of
+abbrev pub to : List ℕ → RefT (List ℕ)
+to s = record { ptr = (0, 0); name = 0; now = s }
+
+abbrev pub TableAllows : List ℕ → TableRead → Type 0
+TableAllows s r = table.read_table.Reads.Learnt ([], tt) (to s, tt) r (to s, tt)
+
+abbrev pub PlanAllows : List ℕ → PlanRead → Type 0
+PlanAllows s r = plan.read_plan.Reads.Learnt ([], tt) (to s, tt) r (to s, tt)
+
+abbrev pub CheckAllows : List ℕ → List ℕ → Checked → Type 0
+CheckAllows s p r = judge.check_plan.Reads.Learnt ([], ([], tt)) (to s, (to p, tt)) r (to s, (to p, tt))
