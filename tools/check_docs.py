@@ -13,13 +13,14 @@ import os
 import re
 import sys
 
+import trusted
 from refusal_words import refusal_troubles
-from sources import Tree, Words
+from sources import Tree
+from trusted import cells
 
 TOP = os.path.abspath(os.path.join(os.path.dirname(os.path.abspath(__file__)), '..'))
 DOCUMENTS = sorted(glob.glob('*.md', root_dir=TOP) + glob.glob('*/README.md', root_dir=TOP) + glob.glob('docs/**/*.md', root_dir=TOP, recursive=True))
 FUNCTIONS = 'docs/FUNCTIONS.md'
-TRUSTED = 'docs/TRUSTED.md'
 troubles = []
 
 
@@ -29,9 +30,7 @@ def text(path):
 
 
 def section(document, heading):
-    """The part of a document under a heading."""
-    parts = re.split(r'^## ', text(document), flags=re.M)
-    return next((part for part in parts if part.split('\n', 1)[0].strip() == heading), '')
+    return trusted.section(text(document), heading)
 
 
 def compare(what, wanted, found):
@@ -59,12 +58,6 @@ def check_functions(tree):
     compare(f'{FUNCTIONS}, asking', {path_of(f) for f in public if ' requires ' in f.contract}, asking)
     silent = {(row[0].strip(), name) for row in cells(section(FUNCTIONS, 'Functions with no `ensures`')) for name in re.findall(r'`(\w+)`', row[1])}
     compare(f'{FUNCTIONS}, no ensures', {(f.path, f.key.split('.')[-1]) for f in tree.functions if ' ensures ' not in f.contract}, silent)
-
-
-def cells(part):
-    """The rows of a part's tables, without their heads."""
-    found = [row.split('|') for row in re.findall(r'^\|(.*)\|$', part, re.M)]
-    return [row for row in found if not set(''.join(row)) <= set('-: ')]
 
 
 def rows(part, column):
@@ -127,26 +120,15 @@ def check_quotes(document, tree):
 
 
 def check_trusted(tree):
-    """TRUSTED.md: the statements that are signed, what is pinned, and the definitions that they rest on, with their lines."""
-    words = Words(tree)
-    pinned = {tuple(row[:2]) for row in named_pairs('What is pinned')}
-    believed = set()
-    for path, name in named_pairs('The statements'):
-        if (path, name) not in words.at:
-            troubles.append(f'{TRUSTED}: {name} is not declared in {path}')
-            continue
-        believed |= words.rests_on(path, words.at[path, name].statement, pinned)
-    listed = set(named_pairs('The definitions'))
-    compare(TRUSTED, {f'{path}: {name}' for path, name in believed - pinned}, {f'{path}: {name}' for path, name in listed})
-    for row in cells(section(TRUSTED, 'The definitions')):
-        path = 'crates/' + row[0].strip()
-        lines = sum(words.at[path, name].lines for name in re.findall(r'`([^`]+)`', row[1]) if (path, name) in words.at)
-        if row[2].strip().isdigit() and int(row[2]) != lines:
-            troubles.append(f'{TRUSTED}: the definitions named of {path} have {lines} lines, not {row[2].strip()}')
-
-
-def named_pairs(heading):
-    return [('crates/' + row[0].strip(), name) for row in cells(section(TRUSTED, heading)) for name in re.findall(r'`([^`]+)`', row[1])]
+    """TRUSTED.md lists exactly the definitions that the signed statements rest on, with their lines."""
+    files, missing = trusted.believed(tree, text(trusted.DOCUMENT))
+    troubles.extend(f'{trusted.DOCUMENT}: {name} is not declared in {path}' for path, name in missing)
+    wanted = {f'{path}: {name}' for path, (names, _) in files.items() for name in names}
+    compare(trusted.DOCUMENT, wanted, {f'{path}: {name}' for path, name in trusted.named(text(trusted.DOCUMENT), 'The definitions')})
+    for row in trusted.cells(section(trusted.DOCUMENT, 'The definitions'))[1:]:
+        lines = files.get('crates/' + row[0].strip(), (None, sum(n for _, n in files.values())))[1]
+        if int(row[2]) != lines:
+            troubles.append(f'{trusted.DOCUMENT}: {row[0].strip()} has {lines} lines, not {row[2].strip()}')
 
 
 def main():

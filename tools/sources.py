@@ -183,6 +183,7 @@ class Words:
     def __init__(self, tree):
         self.tree = tree
         self.at = {(d.path, d.name): d for d in tree.specs + tree.theorems}
+        self.order = {key: place for place, key in enumerate(self.at)}
         self.imported = {path: imports(text) for path, text in tree.texts.items() if path.endswith('.antt')}
 
     def named(self, path, text):
