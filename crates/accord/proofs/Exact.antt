@@ -147,6 +147,7 @@ module _ (s : List ℕ) (bytes : All Byte s) where
         go (met-from t e c m h) = (
           (λ q. let same : c ≡ d = cc (h, q) in (t, table-is s bytes (accepted t) .0 e, subst (LeastDeadline largestTime (t .jobs)) same m)),
           (λ l.
-              let other : LeastDeadline largestTime (t .jobs) d = subst (λ (u : JobTable). LeastDeadline largestTime (u .jobs) d) (same-table e (l .1)) (l .2) in
+              let other : LeastDeadline largestTime (t .jobs) d =
+              subst (λ (u : JobTable). LeastDeadline largestTime (u .jobs) d) (same-table e (l .1)) (l .2) in
               h ∙ ap (λ (n : ℕ). 0 ∷ n ∷ []) (least-unique (t .jobs) largestTime c d m other)),
         )

@@ -28,7 +28,8 @@ use Rattle.judge.specs.declared.Checked.{Checked}
 use Rattle.judge.specs.declared.Checked.the-variants.{Passes, Fails}
 use Rattle.judge.specs.Check.{checkedSays, timed, afterPlan, afterTable, checkPlan}
 use Rattle.faults.specs.Faults.{Byte, TableIs, PlanIs, TableSays, a-table, no-table, PlanSays, a-plan, no-plan, Placed}
-use Rattle.faults.specs.Checks.{RunsOnTime, PlanOf, CheckIs, no-table as bad-table, no-plan as bad-plan, misfit, passes, CheckSays, Passed, CheckNumbers, of-pass, of-table, of-plan, of-misfit}
+use Rattle.faults.specs.Checks.{RunsOnTime, PlanOf, CheckIs, no-table as bad-table, no-plan as bad-plan, misfit, passes, CheckSays, Passed, CheckNumbers}
+use Rattle.faults.specs.Checks.{of-pass, of-table, of-plan, of-misfit}
 use Rattle.faults.specs.Allows.{TableAllows, PlanAllows, CheckAllows}
 use Rattle.faults.proofs.Files.{exactly}
 use Rattle.faults.proofs.Tables.{table-or-fault, table-read}

@@ -31,15 +31,14 @@ use Rattle.judge.proofs.Jobs.{listed-tells, all-or-left}
 
 -- the run at full entries decides
 module _ (D : ℕ) (cs : List Chosen) where
-  timed-tells : ((timed D cs ≡ Passes (lastFrom 0 cs) (busy cs)) ↔ (lastFrom 0 cs ≤ D)) × ((timed D cs ≡ Fails Late) ↔ ¬ (lastFrom 0 cs ≤ D))
+  timed-tells : (timed D cs ≡ Passes (lastFrom 0 cs) (busy cs)) ↔ (lastFrom 0 cs ≤ D)
   timed-tells = step (leb (lastFrom 0 cs) D) refl
     where
       step :
           (b : Bool) → leb (lastFrom 0 cs) D ≡ b →
-          ((cond b (Passes (lastFrom 0 cs) (busy cs)) (Fails Late) ≡ Passes (lastFrom 0 cs) (busy cs)) ↔ (lastFrom 0 cs ≤ D)) ×
-          ((cond b (Passes (lastFrom 0 cs) (busy cs)) (Fails Late) ≡ Fails Late) ↔ ¬ (lastFrom 0 cs ≤ D))
-      step true q = let h : lastFrom 0 cs ≤ D = leb-true _ _ q in ((λ e. h, λ k. refl), (λ e. clash (cc), λ n. absurd (n h)))
-      step false q = let h : D < lastFrom 0 cs = leb-false _ _ q in ((λ e. clash (cc), λ k. absurd (omega arith)), (λ e k. omega arith, λ n. refl))
+          (cond b (Passes (lastFrom 0 cs) (busy cs)) (Fails Late) ≡ Passes (lastFrom 0 cs) (busy cs)) ↔ (lastFrom 0 cs ≤ D)
+      step true q = ((λ e. leb-true _ _ q), (λ k. refl))
+      step false q = let h : D < lastFrom 0 cs = leb-false _ _ q in ((λ e. clash (cc)), (λ k. absurd (omega arith)))
 
   -- every run is on time exactly when the last finish of the run at full entries is
   runs-last : ((rs : List Took) → RunOf cs rs → OnTime D 0 rs) ↔ (lastFrom 0 cs ≤ D)
@@ -57,7 +56,7 @@ module _
 
   pub pass-iff-runs : (checkPlan s p ≡ Passes (lastFrom 0 cs) (busy cs)) ↔ ((rs : List Took) → RunOf cs rs → OnTime (t .deadline) 0 rs)
   pass-iff-runs =
-      let v = timed-tells (t .deadline) cs .0 in
+      let v = timed-tells (t .deadline) cs in
       let r = runs-last (t .deadline) cs in
       (λ e. r .1 (v .0 (sym judged ∙ e)), λ h. judged ∙ v .1 (r .0 h))
 

@@ -23,7 +23,8 @@ use Rattle.planner.specs.declared.Planned.{Planned}
 use Rattle.planner.specs.declared.Planned.the-variants.{PlanWritten, NotPlanned}
 use Rattle.planner.specs.declared.Least.{Least}
 use Rattle.planner.specs.declared.Least.the-variants.{DeadlineIs, NoDeadline}
-use Rattle.planner.specs.Answers.{plannedSays, leastSays, Refuses, Writes, PlanAnswer, no-room, bad-table, no-plan, planned, BestPlan, FreeAnswer, GivenAnswer, LeastAnswer, never-met, met-from}
+use Rattle.planner.specs.Answers.{plannedSays, leastSays, Refuses, Writes, PlanAnswer, no-room, bad-table, no-plan, planned, BestPlan, FreeAnswer}
+use Rattle.planner.specs.Answers.{GivenAnswer, LeastAnswer, never-met, met-from}
 
 -- what is said tells the answer
 pub planned-says-injective : (r q : Planned) → plannedSays r ≡ plannedSays q → r ≡ q
@@ -85,7 +86,8 @@ module _ (s before : List ℕ) (r : Planned) (a : List ℕ) (q : Planned) (b : L
       planner-settled (planned l t d xs p h) (no-room m k) = absurd (omega arith)
       planner-settled (planned l t d xs p h) (bad-table m g e k) = clash (cc)
       planner-settled (planned l t d xs p h) (no-plan m u e n k) = absurd (n (rw (same-table u t e d) (possible (t .deadline) (t .jobs) xs p)))
-      planner-settled (planned l t d xs p h) (planned m u e ys o k) = both-write xs ys (unique (u .deadline) (u .jobs) xs ys (rw (same-table t u d e) at p) o) h k
+      planner-settled (planned l t d xs p h) (planned m u e ys o k) =
+          both-write xs ys (unique (u .deadline) (u .jobs) xs ys (rw (same-table t u d e) at p) o) h k
 
   pub free-settled : FreeAnswer s before r a → FreeAnswer s before q b → Same r a q b
   free-settled = planner-settled Met BestPlan best-meets one-best
