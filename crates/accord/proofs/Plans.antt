@@ -6,7 +6,7 @@ use mathlib.Core.Path.{_≡_, refl, sym, ap, subst, _∙_}
 use mathlib.Core.List.{List, [], _∷_, List·Permᴰ, Permᴰ·refl, Permᴰ·symm, Permᴰ·map}
 use mathlib.Core.Option.{some}
 use lib.ListN.{length, take, drop, length-map}
-use lib.Seq.{take-at, drop-at}
+use lib.Seq.{take-at}
 use Rattle.model.specs.declared.Job.{Job}
 use Rattle.model.specs.Lists.{All, greatest}
 use Rattle.model.specs.Timetable.{Chosen, Allowed, Placed, Timetable, span, finish, Meets}
@@ -97,9 +97,6 @@ module _ (t : JobTable) (good : GoodTable t) (xs : List Chosen) (of : PlanOf (t 
     pub reads : PlanIs (take (length bytes) after) (accepted (stepsFor xs))
     reads = (good-plan, front)
 
-    behind-it : drop (length bytes) after ≡ drop (length bytes) before
-    behind-it = ap (drop (length bytes)) (w .front) ∙ drop-at bytes (drop (length bytes) before) (length bytes) refl
-
     size-short : length bytes ≤ longestPlan
     size-short = omega (arith, plan-length (stepsFor xs), as-many, good .few)
 
@@ -114,9 +111,10 @@ module _ (t : JobTable) (good : GoodTable t) (xs : List Chosen) (of : PlanOf (t 
         let total : b ≡ busy xs = cc (w .says, e) in
         let finishes : l ≡ lastFrom 0 xs = cc (w .says, e) in
         record {
+          bytes = size;
+          front = rw size (w .front);
           plan = rw size reads;
           short = rw size size-short;
-          rest = rw size behind-it;
           ps = ps;
           same = same;
           timetable = is;

@@ -3,7 +3,7 @@
 use Prim.Native.Nat.{ℕ, _≤_, _<_}
 use mathlib.Core.Path.{_≡_}
 use mathlib.Core.Logic.{_⊎_, _↔_}
-use mathlib.Core.List.{List, [], _∷_, List·Permᴰ}
+use mathlib.Core.List.{List, [], _∷_, _++_, List·Permᴰ}
 use lib.ListN.{length, take, drop}
 use Rattle.model.specs.declared.Job.{Job}
 use Rattle.model.specs.Lists.{greatest}
@@ -13,6 +13,7 @@ use Rattle.table.specs.declared.refusal.Refusal.{Refusal}
 use Rattle.table.specs.Limits.{longestPlan}
 use Rattle.table.specs.Refusals.{refusalSays, accepted}
 use Rattle.table.specs.Tables.{JobTable}
+use Rattle.plan.specs.Plans.{planBytes}
 use Rattle.draft.specs.Drafts.{stepsFor}
 use Rattle.planner.specs.declared.Planned.{Planned}
 use Rattle.planner.specs.Answers.{plannedSays}
@@ -39,9 +40,10 @@ module _ (Kind : List Job → List Placed → Type 0) where
   -- What stands in the area where 0 is said with these values: at its front a plan of at most 65 bytes, behind it what stood there. The plan's jobs xs, back to
   -- back from tick 0, are a timetable ps that meets the deadline, with this busy total and last finish; none that meets it has a smaller sum of spans.
   pub record PlanStands (t : JobTable) (xs : List Chosen) (before after : List ℕ) (size busy last : ℕ) : Type 0 where
+    pub bytes : size ≡ length (planBytes (stepsFor xs))
+    pub front : after ≡ planBytes (stepsFor xs) ++ drop size before
     pub plan : PlanIs (take size after) (accepted (stepsFor xs))
     pub short : size ≤ longestPlan
-    pub rest : drop size after ≡ drop size before
     pub ps : List Placed
     pub same : List·Permᴰ (laid 0 xs) ps
     pub timetable : Kind (t .jobs) ps

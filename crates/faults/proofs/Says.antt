@@ -17,7 +17,7 @@ use Rattle.model.proofs.Bounds.{fits-last}
 use Rattle.table.specs.declared.TableRead.{TableRead}
 use Rattle.table.specs.declared.refusal.Refusal.the-variants.{Late}
 use Rattle.table.specs.Refusals.{refusalSays, Outcome, accepted, refused}
-use Rattle.table.specs.Tables.{JobTable, jobTable, tableRead, verdictSays}
+use Rattle.table.specs.Tables.{JobTable, jobTable, tableRead, verdictSays, tableBytes}
 use Rattle.table.proofs.Accepted.{held-table}
 use Rattle.table.proofs.Refusals.{says-not-zero}
 use Rattle.plan.specs.declared.Step.{Step}
@@ -66,6 +66,18 @@ module _ (s : List ℕ) (r : TableRead) (allows : TableAllows s r) where
         step : {ns : List ℕ} → TableSays s ns → (ns ≡ 0 ∷ []) ⊎ Placed s ns
         step (a-table t is) = inl refl
         step (no-table f is) = inr (table-placed is)
+
+-- so two byte strings that are read as the same table are equal
+pub read-injective :
+    (s u : List ℕ) → All Byte s → All Byte u → (r : TableRead) → TableAllows s r → TableAllows u r → verdictSays (r .verdict) ≡ 0 ∷ [] → s ≡ u
+read-injective s u bs bu r first second whole =
+    let t = the-table s (table-says s r first bs (0 ∷ []) .0 whole) refl in
+    let v = the-table u (table-says u r second bu (0 ∷ []) .0 whole) refl in
+    t .1 .1 ∙ (ap tableBytes (sym (table-held s r first (t .0) (t .1)) ∙ table-held u r second (v .0) (v .1)) ∙ sym (v .1 .1))
+  where
+    the-table : (l : List ℕ) {ns : List ℕ} → TableSays l ns → ns ≡ 0 ∷ [] → (t : JobTable) × TableIs l (accepted t)
+    the-table l (a-table t is) e = (t, is)
+    the-table l (no-table f is) e = absurd (says-not-zero f [] e)
 
 -- The plan's reader.
 module _ (s : List ℕ) (r : PlanRead) (allows : PlanAllows s r) where
