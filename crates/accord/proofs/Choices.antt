@@ -55,6 +55,8 @@ module _ (js : List Job) (sound : SoundJobs js) (p : Prepared) (held : p ≡ pre
     earliest-is d = step r (allows js held)
       where
         step : (q : EarliestMet) → IsEarliest js q → (earliestSays q ≡ 0 ∷ d ∷ []) ↔ LeastDeadline largestTime js d
-        step (MetAt c) l =
-            ((λ e. let same : c ≡ d = cc in subst (LeastDeadline largestTime js) same l), (λ k. ap (λ (n : ℕ). 0 ∷ n ∷ []) (least-unique js largestTime c d l k)))
+        step (MetAt c) l = (
+          (λ e. let same : c ≡ d = cc in subst (LeastDeadline largestTime js) same l),
+          (λ k. ap (λ (n : ℕ). 0 ∷ n ∷ []) (least-unique js largestTime c d l k)),
+        )
         step NeverMet n = ((λ e. clash (cc)), (λ k. absurd (n (met-mono js d largestTime (k .high) (k .met)))))

@@ -12,7 +12,6 @@ use Rattle.model.specs.Timetable.{Chosen, Placed, Timetable, Met}
 use Rattle.model.specs.FreeOrder.{LeastDeadline}
 use Rattle.model.specs.GivenOrder.{InOrder, MetInOrder, BestInOrder}
 use Rattle.model.proofs.Lists.{clash}
-use Rattle.model.proofs.Timetables.{timetable-iff-workable}
 use Rattle.model.proofs.GivenOrder.{best-in-order-iff}
 use Rattle.model.proofs.LeastDeadline.{met-mono, least-unique}
 use Rattle.table.specs.declared.refusal.Refusal.{Refusal}
@@ -23,6 +22,7 @@ use Rattle.table.proofs.Refusals.{says-not-zero}
 use Rattle.planner.specs.declared.Planned.{Planned}
 use Rattle.planner.specs.declared.Least.{Least}
 use Rattle.planner.specs.Answers.{plannedSays, leastSays, PlanAnswer, no-room, bad-table, no-plan, planned, BestPlan, LeastAnswer, never-met, met-from}
+use Rattle.planner.proofs.Settled.{best-meets}
 use Rattle.faults.specs.Faults.{Byte, TableFault, TableIs}
 use Rattle.faults.proofs.Tables.{table-read, table-is}
 use Rattle.faults.proofs.Numbers.{table-placed}
@@ -114,8 +114,7 @@ module _ (s : List ℕ) (bytes : All Byte s) where
 
   pub free-says : (before : List ℕ) (r : Planned) (after : List ℕ) → FreeAllows s before r after → PlansWhen Timetable s before r after
   free-says =
-      plans-when Timetable Met BestPlan (λ t. ((λ m. m), (λ m. m)))
-      (λ D js xs p. timetable-iff-workable D js .1 (p .0, p .1 .choice, p .1 .workable))
+      plans-when Timetable Met BestPlan (λ t. ((λ m. m), (λ m. m))) best-meets
 
   pub given-says : (before : List ℕ) (r : Planned) (after : List ℕ) → GivenAllows s before r after → PlansWhen InOrder s before r after
   given-says =
@@ -148,6 +147,7 @@ module _ (s : List ℕ) (bytes : All Byte s) where
         go (met-from t e c m h) = (
           (λ q. let same : c ≡ d = cc (h, q) in (t, table-is s bytes (accepted t) .0 e, subst (LeastDeadline largestTime (t .jobs)) same m)),
           (λ l.
-              let other : LeastDeadline largestTime (t .jobs) d = subst (λ (u : JobTable). LeastDeadline largestTime (u .jobs) d) (same-table e (l .1)) (l .2) in
+              let other : LeastDeadline largestTime (t .jobs) d =
+              subst (λ (u : JobTable). LeastDeadline largestTime (u .jobs) d) (same-table e (l .1)) (l .2) in
               h ∙ ap (λ (n : ℕ). 0 ∷ n ∷ []) (least-unique (t .jobs) largestTime c d m other)),
         )

@@ -4,21 +4,16 @@ use Prim.Native.Nat.{ℕ, _≤_}
 use native.Mathlib.Omega.{arith}
 use mathlib.Core.Path.{_≡_, refl, sym, ap, subst, _∙_}
 use mathlib.Core.Bool.{Bool, true, false}
-use mathlib.Core.List.{List, [], _∷_, _++_, List·Permᴰ, Permᴰ·symm, Permᴰ·map}
+use mathlib.Core.List.{List, [], _∷_, _++_}
 use mathlib.Core.Option.{Option, none, some}
-use lib.ListN.{length, take, drop}
-use lib.Seq.{take-at}
+use lib.ListN.{length, drop}
 use lib.Dec.{ltb}
 use borrow.Author.Tests.{ltb-true, ltb-false}
-use Rattle.model.specs.declared.Job.{Job}
 use Rattle.model.specs.Lists.{All}
-use Rattle.model.specs.Timetable.{Chosen, Allowed, Met}
-use Rattle.model.specs.FreeOrder.{plan, busy, lastFrom}
+use Rattle.model.specs.Timetable.{Chosen, Met}
+use Rattle.model.specs.FreeOrder.{busy, lastFrom}
 use Rattle.model.specs.Positions.{free}
-use Rattle.model.proofs.Permutations.{all-perm}
-use Rattle.model.proofs.PlanOrder.{jobOf, jobs, perm-plan}
-use Rattle.model.proofs.Timetables.{timetable-iff-workable}
-use Rattle.model.proofs.Best.{best-unique}
+use Rattle.model.proofs.PlanOrder.{jobs}
 use Rattle.model.proofs.Free.{free-best, free-none-iff}
 use Rattle.table.specs.declared.refusal.Refusal.the-variants.{None, Room}
 use Rattle.table.specs.Limits.{mostJobs, longestPlan}
@@ -29,26 +24,16 @@ use Rattle.plan.specs.Plans.{planBytes}
 use Rattle.draft.specs.Drafts.{stepsFor}
 use Rattle.planner.specs.declared.Planned.{Planned}
 use Rattle.planner.specs.declared.Planned.the-variants.{PlanWritten, NotPlanned}
-use Rattle.planner.specs.Answers.{Writes, no-room, bad-table, no-plan, planned, BestPlan, FreeAnswer}
+use Rattle.planner.specs.Answers.{no-room, bad-table, no-plan, planned, BestPlan, FreeAnswer}
+use Rattle.planner.proofs.Settled.{best-meets, one-best}
 use Rattle.faults.specs.Faults.{Byte}
-use Rattle.faults.specs.Checks.{PlanOf}
 use Rattle.faults.proofs.Tables.{table-is}
 use Rattle.listing.specs.declared.Listed.{Listed}
 use Rattle.listing.specs.Listing.{planText, foundText, outcomeText, textOf, roomForText, listedSays, Lists, no-room as no-space, text-written}
 use Rattle.listing.proofs.Texts.{refused-text}
 use Rattle.accord.specs.Allows.{FreeAllows, ListAllows}
 use Rattle.accord.specs.Prints.{TextOf, of-refusal, of-plan}
-
--- a best plan is a plan of the table's jobs
-best-plan-of : (D : ℕ) (js : List Job) (xs : List Chosen) → BestPlan D js xs → PlanOf js xs
-best-plan-of D js xs p =
-    let cs = p .0 in
-    let choice = p .1 .choice in
-    let perm : List·Permᴰ xs cs = subst (λ (l : List Chosen). List·Permᴰ l cs) (sym (p .2)) (perm-plan cs (choice .allowed)) in
-    record {
-      each = subst (List·Permᴰ (jobs xs)) (choice .each) (Permᴰ·map jobOf perm);
-      allowed = all-perm Allowed (Permᴰ·symm perm) (choice .allowed);
-    }
+use Rattle.accord.proofs.Plans.{free-of, front}
 
 module _ (s : List ℕ) (t : JobTable) (e : readTable s ≡ accepted t) where
   abbrev found : Option (List Chosen)
@@ -62,10 +47,8 @@ module _ (s : List ℕ) (t : JobTable) (e : readTable s ≡ accepted t) where
   finds-best xs p = step found refl
     where
       step : (o : Option (List Chosen)) → found ≡ o → found ≡ some xs
-      step none q = absurd (free-none-iff mostJobs (t .jobs) few (t .deadline) .0 q (timetable-iff-workable (t .deadline) (t .jobs) .1 (p .0, p .1 .choice, p .1 .workable)))
-      step (some ys) q =
-          let o = free-best mostJobs (t .jobs) few (t .deadline) ys q in
-          q ∙ ap some (o .2 ∙ (ap plan (best-unique (t .deadline) (t .jobs) (o .0) (p .0) (o .1) (p .1)) ∙ sym (p .2)))
+      step none q = absurd (free-none-iff mostJobs (t .jobs) few (t .deadline) .0 q (best-meets (t .deadline) (t .jobs) xs p))
+      step (some ys) q = q ∙ ap some (one-best (t .deadline) (t .jobs) ys xs (free-best mostJobs (t .jobs) few (t .deadline) ys q) p)
 
   text-none : ¬ (Met (t .deadline) (t .jobs)) → textOf s ≡ foundText t none
   unfolding textOf
@@ -82,10 +65,10 @@ module _ (s : List ℕ) (bytes : All Byte s) (before : List ℕ) (r : Planned) (
   text-of (bad-table m f e h) = subst (TextOf s r after) (refused-text s f e) (of-refusal f (h .says))
   text-of (no-plan m t e n h) = subst (TextOf s r after) (sym (text-none s t e n)) (of-refusal None (h .says))
   text-of (planned m t e xs p h) =
-      let size = length (planBytes (stepsFor xs)) in
+      let table = table-is s bytes (accepted t) .0 e in
+      let of = free-of (t .deadline) (t .jobs) xs p .0 in
       subst (TextOf s r after) (sym (text-plan s t e xs p))
-      (of-plan t xs size (busy xs) (lastFrom 0 xs) (table-is s bytes (accepted t) .0 e) (best-plan-of (t .deadline) (t .jobs) xs p) (h .says)
-      (ap (take size) (h .front) ∙ take-at (planBytes (stepsFor xs)) (drop size before) size refl))
+      (of-plan t xs (length (planBytes (stepsFor xs))) (busy xs) (lastFrom 0 xs) table of (h .says) (front t (table .0) xs of before r after h))
 
   pub prints : FreeAllows s before r after → (buffer : List ℕ) (q : Listed) (out : List ℕ) → ListAllows s buffer q out → roomForText ≤ length buffer →
       (text : List ℕ) × TextOf s r after text × (listedSays q ≡ 0 ∷ length text ∷ []) × (out ≡ text ++ drop (length text) buffer)

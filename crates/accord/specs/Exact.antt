@@ -4,7 +4,7 @@ use Prim.Native.Nat.{ℕ, _≤_, _<_}
 use mathlib.Core.Path.{_≡_}
 use mathlib.Core.Logic.{_⊎_, _↔_}
 use mathlib.Core.List.{List, [], _∷_, _++_, List·Permᴰ}
-use lib.ListN.{length, drop}
+use lib.ListN.{length, take, drop}
 use Rattle.model.specs.declared.Job.{Job}
 use Rattle.model.specs.Lists.{greatest}
 use Rattle.model.specs.Timetable.{Chosen, Placed, finish, Meets}
@@ -17,7 +17,7 @@ use Rattle.plan.specs.Plans.{planBytes}
 use Rattle.draft.specs.Drafts.{stepsFor}
 use Rattle.planner.specs.declared.Planned.{Planned}
 use Rattle.planner.specs.Answers.{plannedSays}
-use Rattle.faults.specs.Faults.{TableFault, TableIs}
+use Rattle.faults.specs.Faults.{TableFault, TableIs, PlanIs}
 
 -- "then the table, then NONE": where the bytes s are no table, the fault's number and place; 7 where they are one that cannot be met, else 0
 pub record SaysWhen (s : List ℕ) (CanMeet : JobTable → Type 0) (says : List ℕ) : Type 0 where
@@ -37,11 +37,13 @@ module _ (Kind : List Job → List Placed → Type 0) where
     pub says : longestPlan ≤ length before → SaysWhen s Possible (plannedSays r)
     pub left : ((length busy last : ℕ) × (plannedSays r ≡ 0 ∷ length ∷ busy ∷ last ∷ [])) ⊎ (after ≡ before)
 
-  -- What stands in the area where 0 is said with these values: the bytes of a plan, whose jobs xs back to back from tick 0 are a timetable ps that meets
-  -- the deadline, with this busy total and last finish; no timetable that meets it has a smaller sum of spans.
+  -- What stands in the area where 0 is said with these values: at its front a plan of at most 65 bytes, behind it what stood there. The plan's jobs xs, back to
+  -- back from tick 0, are a timetable ps that meets the deadline, with this busy total and last finish; none that meets it has a smaller sum of spans.
   pub record PlanStands (t : JobTable) (xs : List Chosen) (before after : List ℕ) (size busy last : ℕ) : Type 0 where
     pub bytes : size ≡ length (planBytes (stepsFor xs))
     pub front : after ≡ planBytes (stepsFor xs) ++ drop size before
+    pub plan : PlanIs (take size after) (accepted (stepsFor xs))
+    pub short : size ≤ longestPlan
     pub ps : List Placed
     pub same : List·Permᴰ (laid 0 xs) ps
     pub timetable : Kind (t .jobs) ps

@@ -1,5 +1,5 @@
--- Every table and plan come to something (`check-there`): the refusal of the first fault, or a pass. And that is what the check says of them (`check-read`).
--- Assumes nothing.
+-- Every table and plan come to something: the refusal of the first fault, or a pass; and `checkPlan` says of them exactly that (`check-is`).
+-- proofs/Says.antt tells the same of the check's own contract, in numbers. Assumes nothing.
 use Prim.Native.Nat.{ℕ, _+_}
 use native.Mathlib.Omega.{arith}
 use mathlib.Core.Path.{_≡_, refl, sym, ap, subst, _∙_}
@@ -34,7 +34,9 @@ use Rattle.judge.specs.declared.Checked.the-variants.{Passes, Fails}
 use Rattle.judge.specs.Check.{jobOf, chosenBy, before, listed, lacksOne, timed, afterPlan, afterTable, checkPlan}
 use Rattle.judge.proofs.Jobs.{job-found, Named, perm-members, listed-from, lacks-that, none-left, all-or-left}
 use Rattle.faults.specs.Faults.{Byte, TableIs, PlanIs}
-use Rattle.faults.specs.Checks.{StepFault, stranger, kept, RunsOnTime, StepOk, PlanOf, fullRun, Misfit, at-step, left, late, CheckIs, no-table, no-plan, misfit, passes}
+use Rattle.faults.specs.Checks.{StepFault, stranger, kept, RunsOnTime, StepOk, PlanOf, fullRun, Misfit, at-step, left, late, CheckIs, no-table, no-plan}
+use Rattle.faults.specs.Checks.{misfit, passes}
+use Rattle.faults.proofs.Files.{exactly, exactly-one}
 use Rattle.faults.proofs.Tables.{table-or-fault, table-read}
 use Rattle.faults.proofs.Plans.{plan-or-fault, plan-read}
 
@@ -44,7 +46,9 @@ full-iff D t [] = ((λ h. tt), (λ h. tt))
 full-iff D t (c ∷ cs) = let r = full-iff D (t + span c) cs in ((λ h. (h .0, r .0 (h .1))), (λ h. (h .0, r .1 (h .1))))
 
 -- steps without a fault are these jobs with these choices
-steps-are : (js : List Job) (xs : List Step) → All (StepOk js) xs → (cs : List Chosen) × (stepsFor cs ≡ xs) × All Allowed cs × All (λ (c : Chosen). List·Memᴰ (c .job) js) cs
+steps-are :
+    (js : List Job) (xs : List Step) → All (StepOk js) xs →
+    (cs : List Chosen) × (stepsFor cs ≡ xs) × All Allowed cs × All (λ (c : Chosen). List·Memᴰ (c .job) js) cs
 steps-are js [] h = ([], refl, tt, tt)
 steps-are js (x ∷ xs) h =
     let c = h .0 in
@@ -102,10 +106,16 @@ module _ (js : List Job) (distinct : Distinct jobId js) where
   step-or-fault x = step (job-or-none js (x .id))
     where
       choice : (j : Job) → List·Memᴰ j js → j .id ≡ x .id → (w i : Bool) → x .away ≡ w → isEither j ≡ i → StepOk js x ⊎ ((f : Refusal) × StepFault js x f)
-      choice j m e true true a b = inl (chosen j (x .away), m, subst (λ (i : Bool). T (i || not (x .away))) (sym b) tt, (λ i. record { id = e i; away = x .away }))
+      choice j m e true true a b =
+          inl (chosen j (x .away), m, subst (λ (i : Bool). T (i || not (x .away))) (sym b) tt, (λ i. record { id = e i; away = x .away }))
       choice j m e true false a b = inr (Kept, kept j m e b a)
       choice j m e false i a b =
-          inl (chosen j (x .away), m, subst (λ (w : Bool). T (isEither j || not w)) (sym a) (subst T (sym (or-true (isEither j))) tt), (λ i. record { id = e i; away = x .away }))
+          inl (
+            chosen j (x .away),
+            m,
+            subst (λ (w : Bool). T (isEither j || not w)) (sym a) (subst T (sym (or-true (isEither j))) tt),
+            (λ i. record { id = e i; away = x .away }),
+          )
 
       step : ((j : Job) × List·Memᴰ j js × (j .id ≡ x .id)) ⊎ All (λ (j : Job). ¬ (j .id ≡ x .id)) js → StepOk js x ⊎ ((f : Refusal) × StepFault js x f)
       step (inl r) = choice (r .0) (r .1) (r .2) (x .away) (isEither (r .0)) refl refl
@@ -177,7 +187,8 @@ pub check-read : (s p : List ℕ) (c : Checked) → CheckIs s p c → checkPlan 
 unfolding checkPlan
 check-read s p c (no-table {f} y) = rw (table-read s (refused f) y)
 check-read s p c (no-plan t {f} table y) = rw (table-read s (accepted t) table, plan-read p (refused f) y)
-check-read s p c (misfit t xs table plan y) = ap (afterTable p) (table-read s (accepted t) table) ∙ (ap (afterPlan t) (plan-read p (accepted xs) plan) ∙ misfit-read t (table .0) y)
+check-read s p c (misfit t xs table plan y) =
+    ap (afterTable p) (table-read s (accepted t) table) ∙ (ap (afterPlan t) (plan-read p (accepted xs) plan) ∙ misfit-read t (table .0) y)
 check-read s p c (passes t cs table plan of runs) =
     ap (afterTable p) (table-read s (accepted t) table) ∙ (ap (afterPlan t) (plan-read p (accepted (stepsFor cs)) plan) ∙ plan-passes t (table .0) cs of runs)
 
@@ -185,19 +196,30 @@ check-read s p c (passes t cs table plan of runs) =
 pub check-there : (s p : List ℕ) → All Byte s → (c : Checked) × CheckIs s p c
 check-there s p bytes = of-table (table-or-fault s bytes)
   where
-    timely : (t : JobTable) → TableIs s (accepted t) → (cs : List Chosen) → PlanIs p (accepted (stepsFor cs)) → PlanOf (t .jobs) cs → (b : Bool) → leb (lastFrom 0 cs) (t .deadline) ≡ b → (c : Checked) × CheckIs s p c
-    timely t table cs plan of true e = (Passes (lastFrom 0 cs) (busy cs), passes t cs table plan of (fits-iff-runs (t .deadline) cs .0 (fits-last (t .deadline) 0 cs .1 (leb-true _ _ e))))
-    timely t table cs plan of false e =
-        (Fails Late, misfit t (stepsFor cs) table plan (late cs of (λ h. let l = fits-last (t .deadline) 0 cs .0 (full-iff (t .deadline) 0 cs .0 h) in omega (arith, leb-false (lastFrom 0 cs) (t .deadline) e))))
+    timely :
+        (t : JobTable) → TableIs s (accepted t) → (cs : List Chosen) → PlanIs p (accepted (stepsFor cs)) → PlanOf (t .jobs) cs → (b : Bool) →
+        leb (lastFrom 0 cs) (t .deadline) ≡ b → (c : Checked) × CheckIs s p c
+    timely t table cs plan of true e =
+        (Passes (lastFrom 0 cs) (busy cs), passes t cs table plan of (fits-iff-runs (t .deadline) cs .0 (fits-last (t .deadline) 0 cs .1 (leb-true _ _ e))))
+    timely t table cs plan of false e = (
+      Fails Late,
+      misfit t (stepsFor cs) table plan
+          (late cs of (λ h. omega (arith, fits-last (t .deadline) 0 cs .0 (full-iff (t .deadline) 0 cs .0 h), leb-false (lastFrom 0 cs) (t .deadline) e))),
+    )
 
-    all-there : (t : JobTable) → TableIs s (accepted t) → (cs : List Chosen) → PlanIs p (accepted (stepsFor cs)) → All Allowed cs → All (λ (c : Chosen). List·Memᴰ (c .job) (t .jobs)) cs → (c : Checked) × CheckIs s p c
+    all-there :
+        (t : JobTable) → TableIs s (accepted t) → (cs : List Chosen) → PlanIs p (accepted (stepsFor cs)) → All Allowed cs →
+        All (λ (c : Chosen). List·Memᴰ (c .job) (t .jobs)) cs → (c : Checked) × CheckIs s p c
     all-there t table cs plan a m =
         let n = named (t .jobs) (table .0 .distinct) cs m in
         ⊎-elim
         (λ r. timely t table cs plan (record { each = r .1; allowed = a }) (leb (lastFrom 0 cs) (t .deadline)) refl)
         (λ r.
-        let lacks = lacks-tells (map stepId (stepsFor cs)) (t .jobs) (r .1) in
-        (Fails Left, misfit t (stepsFor cs) table plan (left (stepsFor cs) (lacks .0) (oks cs a m) (lacks .1) (unused-differs stepId (stepsFor cs) (lacks .0 .id) (lacks .2)))))
+        let lacks = lacks-tells (map stepId (stepsFor cs)) (t .jobs) (r .1) in (
+          Fails Left,
+          misfit t (stepsFor cs) table plan
+              (left (stepsFor cs) (lacks .0) (oks cs a m) (lacks .1) (unused-differs stepId (stepsFor cs) (lacks .0 .id) (lacks .2))),
+        ))
         (all-or-left (t .jobs) cs (table .0 .distinct) (plan .0 .distinct) n)
       where
         oks : (ds : List Chosen) → All Allowed ds → All (λ (c : Chosen). List·Memᴰ (c .job) (t .jobs)) ds → All (StepOk (t .jobs)) (stepsFor ds)
@@ -209,7 +231,19 @@ check-there s p bytes = of-table (table-or-fault s bytes)
     of-steps t table xs plan (inr y) = (Fails (y .0), misfit t xs table plan (y .1))
 
     of-plan : (t : JobTable) → TableIs s (accepted t) → (o : Outcome (List Step)) × PlanIs p o → (c : Checked) × CheckIs s p c
-    of-plan t table o = elim (o .0) as (λ q. PlanIs p q → (c : Checked) × CheckIs s p c) [ accepted xs ↦ λ plan. of-steps t table xs plan (steps-or-fault t (table .0 .distinct) [] xs tt) | refused f ↦ λ y. (Fails f, no-plan t table y) ] (o .1)
+    of-plan t table o =
+        elim (o .0) as (λ q. PlanIs p q → (c : Checked) × CheckIs s p c)
+        [ accepted xs ↦ λ plan. of-steps t table xs plan (steps-or-fault t (table .0 .distinct) [] xs tt) | refused f ↦ λ y. (Fails f, no-plan t table y) ]
+        (o .1)
 
     of-table : (o : Outcome JobTable) × TableIs s o → (c : Checked) × CheckIs s p c
-    of-table o = elim (o .0) as (λ q. TableIs s q → (c : Checked) × CheckIs s p c) [ accepted t ↦ λ table. of-plan t table (plan-or-fault p) | refused f ↦ λ y. (Fails f, no-table y) ] (o .1)
+    of-table o =
+        elim (o .0) as (λ q. TableIs s q → (c : Checked) × CheckIs s p c)
+        [ accepted t ↦ λ table. of-plan t table (plan-or-fault p) | refused f ↦ λ y. (Fails f, no-table y) ] (o .1)
+
+pub check-is : (s p : List ℕ) → All Byte s → (c : Checked) → (checkPlan s p ≡ c) ↔ CheckIs s p c
+check-is s p bytes = exactly (CheckIs s p) (checkPlan s p) (check-there s p bytes) (check-read s p)
+
+-- exactly one of all answers is it
+pub check-one : (s p : List ℕ) → All Byte s → (c : Checked) × CheckIs s p c × ((d : Checked) → CheckIs s p d → c ≡ d)
+check-one s p bytes = exactly-one (CheckIs s p) (checkPlan s p) (check-there s p bytes) (check-read s p)

@@ -98,7 +98,8 @@ module _
   -- one record, where `on` tells what follows one that is listed
   module _
       (xs : List A) (good : Good xs)
-      (on : (x : A) (more : List ℕ) → length xs < mostJobs → Good (xs ++ (x ∷ [])) → All Byte more → Told (first ++ flatMap bytesOf (xs ++ (x ∷ [])) ++ more)) where
+      (on :
+      (x : A) (more : List ℕ) → length xs < mostJobs → Good (xs ++ (x ∷ [])) → All Byte more → Told (first ++ flatMap bytesOf (xs ++ (x ∷ [])) ++ more)) where
     abbrev at : ℕ
     at = length (first ++ flatMap bytesOf xs)
 
@@ -108,10 +109,13 @@ module _
     told-listed : (x : A) (more : List ℕ) → All Byte more → Told (first ++ flatMap bytesOf xs ++ (bytesOf x ++ more))
     told-listed x more bytes = room (ltb (length xs) mostJobs) refl
       where
-        new : length xs < mostJobs → InRange x → List·Memᴰ (idOf x) (map idOf xs) ⊎ All (λ (i : ℕ). ¬ (i ≡ idOf x)) (map idOf xs) → Told (first ++ flatMap bytesOf xs ++ (bytesOf x ++ more))
+        new :
+            length xs < mostJobs → InRange x → List·Memᴰ (idOf x) (map idOf xs) ⊎ All (λ (i : ℕ). ¬ (i ≡ idOf x)) (map idOf xs) →
+            Told (first ++ flatMap bytesOf xs ++ (bytesOf x ++ more))
         new h ok (inl m) = faulty (twice x more h ok m)
         new h ok (inr d) =
-            subst Told (append-assoc first (flatMap bytesOf (xs ++ (x ∷ []))) more ∙ (ap (λ (l : List ℕ). first ++ l) (flat-more bytesOf xs x more) ∙ sym (append-assoc first (flatMap bytesOf xs) (bytesOf x ++ more))))
+            subst Told (append-assoc first (flatMap bytesOf (xs ++ (x ∷ []))) more ∙
+            (ap (λ (l : List ℕ). first ++ l) (flat-more bytesOf xs x more) ∙ sym (append-assoc first (flatMap bytesOf xs) (bytesOf x ++ more))))
             (on x more h (good-more xs x good h ok d) bytes)
 
         ranged : length xs < mostJobs → InRange x ⊎ ¬ InRange x → Told (first ++ flatMap bytesOf xs ++ (bytesOf x ++ more))
@@ -129,7 +133,9 @@ module _
     told-one : (rest : List ℕ) → All Byte rest → Told (first ++ flatMap bytesOf xs ++ rest)
     told-one rest bytes = step (unread-or-whole kinds at rest)
       where
-        whole : ((x : A) × (more : List ℕ) × (rest ≡ bytesOf x ++ more) × All Byte more) ⊎ ((more : List ℕ) × (rest ≡ end ∷ more)) → Told (first ++ flatMap bytesOf xs ++ rest)
+        whole :
+            ((x : A) × (more : List ℕ) × (rest ≡ bytesOf x ++ more) × All Byte more) ⊎ ((more : List ℕ) × (rest ≡ end ∷ more)) →
+            Told (first ++ flatMap bytesOf xs ++ rest)
         whole (inl w) = rw (w .2) (told-listed (w .0) (w .1) (w .3))
         whole (inr w) = rw (w .1) (told-end (w .0))
 
@@ -176,16 +182,21 @@ module _
     (is-range : (at n : ℕ) (x : A) (more : List ℕ) → drop at s ≡ bytesOf x ++ more → n < mostJobs → ¬ InRange x → entryAt at n ≡ bad (Range (place at)))
     (is-one : (at n : ℕ) (x : A) (more : List ℕ) → drop at s ≡ bytesOf x ++ more → n < mostJobs → InRange x → entryAt at n ≡ one x (at + length (bytesOf x)))
     (is-end : (at n : ℕ) (more : List ℕ) → drop at s ≡ end ∷ more → entryAt at n ≡ last (at + 1)) where
-  faulty-refused : (xs : List A) (at : ℕ) {rest : List ℕ} {f : Refusal} → length xs ≤ mostJobs → Faulty idOf bytesOf InRange kinds end xs at rest f → drop at s ≡ rest → readOn idOf s entryAt bytesOf xs at ≡ refused f
+  faulty-refused :
+      (xs : List A) (at : ℕ) {rest : List ℕ} {f : Refusal} → length xs ≤ mostJobs → Faulty idOf bytesOf InRange kinds end xs at rest f → drop at s ≡ rest →
+      readOn idOf s entryAt bytesOf xs at ≡ refused f
   faulty-refused xs at {rest} {f} few (unread u) e = list-step idOf entryAt (length s) xs at few ∙ rw (is-unread at (length xs) rest f u e)
   faulty-refused xs at few (many x more h) e = list-step idOf entryAt (length s) xs at few ∙ rw (is-many at (length xs) x more e (omega arith))
   faulty-refused xs at few (range x more h out) e = list-step idOf entryAt (length s) xs at few ∙ rw (is-range at (length xs) x more e h out)
-  faulty-refused xs at few (twice x more h ok m) e = list-step idOf entryAt (length s) xs at few ∙ rw (is-one at (length xs) x more e h ok, used-member (map idOf xs) (idOf x) m)
+  faulty-refused xs at few (twice x more h ok m) e =
+      list-step idOf entryAt (length s) xs at few ∙ rw (is-one at (length xs) x more e h ok, used-member (map idOf xs) (idOf x) m)
   faulty-refused xs at few (after {b} {more}) e =
       let long : length s - at ≡ suc (suc (length more)) = sym (length-drop at s) ∙ ap length e in
       list-step idOf entryAt (length s) xs at few ∙ rw (is-end at (length xs) (b ∷ more) e, lt-leb (length s) (at + 1) (omega arith))
 
-  pub fault-refused : {first u : List ℕ} {f : Refusal} → ListFault idOf bytesOf InRange kinds end first u f → u ≡ s → listFrom idOf entryAt (length s) (suc mostJobs) [] (length first) ≡ refused f
+  pub fault-refused :
+      {first u : List ℕ} {f : Refusal} → ListFault idOf bytesOf InRange kinds end first u f → u ≡ s →
+      listFrom idOf entryAt (length s) (suc mostJobs) [] (length first) ≡ refused f
   fault-refused {first} (fault xs rest good y) e =
       let begun : drop (length first) s ≡ flatMap bytesOf xs ++ rest =
       ap (drop (length first)) (sym e ∙ append-assoc first (flatMap bytesOf xs) rest) ∙ drop-at first (flatMap bytesOf xs ++ rest) (length first) refl in

@@ -9,7 +9,8 @@ use Rattle.table.specs.declared.refusal.Refusal.{Refusal}
 use Rattle.table.specs.Refusals.{refusalSays}
 use Rattle.table.specs.Tables.{JobTable}
 use Rattle.plan.specs.declared.Step.{Step}
-use Rattle.faults.specs.Faults.{Unread, no-byte, not-allowed, cut, Faulty, unread, many, range, twice, after, ListFault, fault, TableFault, in-frame, deadline, in-row, PlanFault, Placed}
+use Rattle.faults.specs.Faults.{Unread, no-byte, not-allowed, cut, Faulty, unread, many, range, twice, after, ListFault, fault, TableFault, in-frame}
+use Rattle.faults.specs.Faults.{deadline, in-row, PlanFault, Placed}
 use Rattle.faults.specs.Checks.{stranger, kept, Misfit, at-step, left, late}
 
 unread-placed : {kinds : List (ℕ × ℕ)} {at : ℕ} {rest : List ℕ} {f : Refusal} → Unread kinds at rest f → (s : List ℕ) → at ≤ length s → Placed s (refusalSays f)

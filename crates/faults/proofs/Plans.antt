@@ -77,7 +77,8 @@ module _ (s : List ℕ) (at n : ℕ) where
 pub plan-or-fault : (s : List ℕ) → (o : Outcome (List Step)) × PlanIs s o
 plan-or-fault s = step (listed-or-fault stepId stepBytes NoTimes stepKinds 0x2F Any (λ x. inl tt) record-is [] s (all-all (λ b. tt) s))
   where
-    step : ((xs : List Step) × GoodPlan xs × (s ≡ flatMap stepBytes xs ++ (0x2F ∷ []))) ⊎ ((f : Refusal) × PlanFault s f) → (o : Outcome (List Step)) × PlanIs s o
+    step :
+        ((xs : List Step) × GoodPlan xs × (s ≡ flatMap stepBytes xs ++ (0x2F ∷ []))) ⊎ ((f : Refusal) × PlanFault s f) → (o : Outcome (List Step)) × PlanIs s o
     step (inl p) = (accepted (p .0), (p .1, p .2 ∙ sym (plan-flat (p .0))))
     step (inr f) = (refused (f .0), f .1)
 

@@ -17,7 +17,7 @@ use Rattle.model.proofs.Bounds.{fits-last}
 use Rattle.table.specs.declared.TableRead.{TableRead}
 use Rattle.table.specs.declared.refusal.Refusal.the-variants.{Late}
 use Rattle.table.specs.Refusals.{refusalSays, Outcome, accepted, refused}
-use Rattle.table.specs.Tables.{JobTable, jobTable, tableRead, verdictSays}
+use Rattle.table.specs.Tables.{JobTable, jobTable, tableRead, verdictSays, tableBytes}
 use Rattle.table.proofs.Accepted.{held-table}
 use Rattle.table.proofs.Refusals.{says-not-zero}
 use Rattle.plan.specs.declared.Step.{Step}
@@ -27,8 +27,9 @@ use Rattle.draft.specs.Drafts.{stepsFor}
 use Rattle.judge.specs.declared.Checked.{Checked}
 use Rattle.judge.specs.declared.Checked.the-variants.{Passes, Fails}
 use Rattle.judge.specs.Check.{checkedSays, timed, afterPlan, afterTable, checkPlan}
-use Rattle.faults.specs.Faults.{Byte, TableIs, PlanIs, TableSays, a-table, no-table, PlanSays, a-plan, no-plan, Placed}
-use Rattle.faults.specs.Checks.{RunsOnTime, PlanOf, CheckIs, no-table as bad-table, no-plan as bad-plan, misfit, passes, CheckSays, Passed, CheckNumbers, of-pass, of-table, of-plan, of-misfit}
+use Rattle.faults.specs.Faults.{Byte, TableIs, PlanIs, TableSays, a-table, table-fault, PlanSays, a-plan, plan-fault, Placed}
+use Rattle.faults.specs.Checks.{RunsOnTime, PlanOf, CheckIs, no-table, no-plan, misfit, passes, CheckSays, Passed, CheckNumbers}
+use Rattle.faults.specs.Checks.{of-pass, of-table, of-plan, of-misfit}
 use Rattle.faults.specs.Allows.{TableAllows, PlanAllows, CheckAllows}
 use Rattle.faults.proofs.Files.{exactly}
 use Rattle.faults.proofs.Tables.{table-or-fault, table-read}
@@ -41,7 +42,7 @@ module _ (s : List ℕ) (r : TableRead) (allows : TableAllows s r) where
   -- what is said of what the bytes are
   says-table : (ns : List ℕ) → TableSays s ns → verdictSays (r .verdict) ≡ ns
   says-table ns (a-table t is) = ap (λ (x : TableRead). verdictSays (x .verdict)) (allows ∙ ap tableRead (table-read s (accepted t) is))
-  says-table ns (no-table f is) = ap (λ (x : TableRead). verdictSays (x .verdict)) (allows ∙ ap tableRead (table-read s (refused f) is))
+  says-table ns (table-fault f is) = ap (λ (x : TableRead). verdictSays (x .verdict)) (allows ∙ ap tableRead (table-read s (refused f) is))
 
   -- where it says 0, it holds the table
   pub table-held : (t : JobTable) → TableIs s (accepted t) → jobTable (r .table) ≡ t
@@ -53,7 +54,7 @@ module _ (s : List ℕ) (r : TableRead) (allows : TableAllows s r) where
       where
         step : (o : Outcome JobTable) → TableIs s o → (ns : List ℕ) × TableSays s ns
         step (accepted t) is = (0 ∷ [], a-table t is)
-        step (refused f) is = (refusalSays f, no-table f is)
+        step (refused f) is = (refusalSays f, table-fault f is)
 
     pub table-says : (ns : List ℕ) → (verdictSays (r .verdict) ≡ ns) ↔ TableSays s ns
     table-says = exactly (TableSays s) (verdictSays (r .verdict)) something says-table
@@ -64,20 +65,32 @@ module _ (s : List ℕ) (r : TableRead) (allows : TableAllows s r) where
       where
         step : {ns : List ℕ} → TableSays s ns → (ns ≡ 0 ∷ []) ⊎ Placed s ns
         step (a-table t is) = inl refl
-        step (no-table f is) = inr (table-placed is)
+        step (table-fault f is) = inr (table-placed is)
+
+-- so two byte strings that are read as the same table are equal
+pub read-injective :
+    (s u : List ℕ) → All Byte s → All Byte u → (r : TableRead) → TableAllows s r → TableAllows u r → verdictSays (r .verdict) ≡ 0 ∷ [] → s ≡ u
+read-injective s u bs bu r first second whole =
+    let t = the-table s (table-says s r first bs (0 ∷ []) .0 whole) refl in
+    let v = the-table u (table-says u r second bu (0 ∷ []) .0 whole) refl in
+    t .1 .1 ∙ (ap tableBytes (sym (table-held s r first (t .0) (t .1)) ∙ table-held u r second (v .0) (v .1)) ∙ sym (v .1 .1))
+  where
+    the-table : (l : List ℕ) {ns : List ℕ} → TableSays l ns → ns ≡ 0 ∷ [] → (t : JobTable) × TableIs l (accepted t)
+    the-table l (a-table t is) e = (t, is)
+    the-table l (table-fault f is) e = absurd (says-not-zero f [] e)
 
 -- The plan's reader.
 module _ (s : List ℕ) (r : PlanRead) (allows : PlanAllows s r) where
   says-plan : (ns : List ℕ) → PlanSays s ns → planReadSays r ≡ ns
   says-plan ns (a-plan xs is) = ap planReadSays (allows ∙ ap planRead (plan-read s (accepted xs) is))
-  says-plan ns (no-plan f is) = ap planReadSays (allows ∙ ap planRead (plan-read s (refused f) is))
+  says-plan ns (plan-fault f is) = ap planReadSays (allows ∙ ap planRead (plan-read s (refused f) is))
 
   steps-or : (ns : List ℕ) × PlanSays s ns
   steps-or = step (plan-or-fault s .0) (plan-or-fault s .1)
     where
       step : (o : Outcome (List Step)) → PlanIs s o → (ns : List ℕ) × PlanSays s ns
       step (accepted xs) is = (_, a-plan xs is)
-      step (refused f) is = (refusalSays f, no-plan f is)
+      step (refused f) is = (refusalSays f, plan-fault f is)
 
   pub plan-says : (ns : List ℕ) → (planReadSays r ≡ ns) ↔ PlanSays s ns
   plan-says = exactly (PlanSays s) (planReadSays r) steps-or says-plan
@@ -87,7 +100,7 @@ module _ (s : List ℕ) (r : PlanRead) (allows : PlanAllows s r) where
     where
       step : {ns : List ℕ} → PlanSays s ns → ((n : ℕ) × (ns ≡ 0 ∷ n ∷ [])) ⊎ Placed s ns
       step (a-plan xs is) = inl (_, refl)
-      step (no-plan f is) = inr (plan-placed is)
+      step (plan-fault f is) = inr (plan-placed is)
 
 -- The check.
 module _ (s p : List ℕ) (r : Checked) (allows : CheckAllows s p r) where
@@ -103,8 +116,8 @@ module _ (s p : List ℕ) (r : Checked) (allows : CheckAllows s p r) where
     check-number = let c = check-says (checkedSays r) .0 refl in subst (CheckNumbers s p) (c .2) (step (c .1))
       where
         step : {c : Checked} → CheckIs s p c → CheckNumbers s p (checkedSays c)
-        step (bad-table y) = of-table (table-placed y)
-        step (bad-plan t table y) = of-plan (plan-placed y)
+        step (no-table y) = of-table (table-placed y)
+        step (no-plan t table y) = of-plan (plan-placed y)
         step (misfit t xs table plan y) = let n = misfit-number y in of-misfit (n .0) (n .1) (n .2) (n .3)
         step (passes t cs table plan of runs) = of-pass (lastFrom 0 cs) (busy cs) refl
 
@@ -113,8 +126,8 @@ module _ (s p : List ℕ) (r : Checked) (allows : CheckAllows s p r) where
     pass-means ns e = let c = check-says (0 ∷ ns) .0 e in step (c .1) (c .2)
       where
         step : {c : Checked} → CheckIs s p c → checkedSays c ≡ 0 ∷ ns → Passed s p ns
-        step (bad-table {f} y) e = absurd (says-not-zero f ns e)
-        step (bad-plan t {f} table y) e = absurd (says-not-zero f ns e)
+        step (no-table {f} y) e = absurd (says-not-zero f ns e)
+        step (no-plan t {f} table y) e = absurd (says-not-zero f ns e)
         step (misfit t xs {f} table plan y) e = absurd (says-not-zero f ns e)
         step (passes t cs table plan of runs) e = record { t = t; cs = cs; table = table; plan = plan; exactly = of; runs = runs; says = (cc) }
 

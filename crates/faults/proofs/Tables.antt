@@ -24,13 +24,15 @@ use Rattle.table.specs.declared.JobRead.the-variants.{JobRefused}
 use Rattle.table.specs.Limits.{mostJobs, largestTime}
 use Rattle.table.specs.Refusals.{place, Outcome, accepted, refused}
 use Rattle.table.specs.Records.{formOf, frameOnly, rowOnly, bad}
-use Rattle.table.specs.Tables.{JobTable, TimesOk, timeOk, deadlineAt, frameAt, rowBody, jobAt, jobEntry, jobId, jobsRead, afterFrame, withDeadline, readTable, wordBytes, sendingBytes, jobBytes, tableBytes}
+use Rattle.table.specs.Tables.{JobTable, TimesOk, timeOk, deadlineAt, frameAt, rowBody, jobAt, jobEntry, jobId, jobsRead, afterFrame, withDeadline, readTable}
+use Rattle.table.specs.Tables.{wordBytes, sendingBytes, jobBytes, tableBytes}
 use Rattle.table.proofs.Records.{rowByte, form-all, frame-form, opened}
 use Rattle.table.proofs.Tables.{both, rowEntry}
 use Rattle.table.proofs.Written.{word-parts, jobs-flat}
 use Rattle.table.proofs.ReadBack.{word, row-open, job-back, end-back, word-whole, bytes-read}
 use Rattle.judge.proofs.Jobs.{member-all}
-use Rattle.faults.specs.Faults.{Byte, frameKinds, rowKinds, Unread, ListFault, fault, GoodList, DeadlineOk, frameBytes, TableFault, in-frame, deadline, in-row, TableIs}
+use Rattle.faults.specs.Faults.{Byte, frameKinds, rowKinds, Unread, ListFault, fault, GoodList, DeadlineOk, frameBytes, TableFault, in-frame, deadline}
+use Rattle.faults.specs.Faults.{in-row, TableIs}
 use Rattle.faults.proofs.Files.{Whole, unread-or-whole, listed-or-fault, unread-refused, fault-refused, exactly, exactly-one}
 
 -- two bytes are a number's
@@ -60,7 +62,12 @@ either-is (id ∷ l) bytes h =
     let C = word-is l (omega arith) (bytes .1) in
     let S = word-is (C .1) (omega (arith, C .3)) (C .4) in
     let I = word-is (S .1) (omega (arith, C .3, S .3)) (S .4) in
-    inl (record { id = id; local = C .0; sending = Either (S .0) (I .0) }, I .1, either-bytes id (C .0) (S .0) (I .0) l (C .1) (S .1) (I .1) (C .2) (S .2) (I .2), I .4)
+    inl (
+      record { id = id; local = C .0; sending = Either (S .0) (I .0) },
+      I .1,
+      either-bytes id (C .0) (S .0) (I .0) l (C .1) (S .1) (I .1) (C .2) (S .2) (I .2),
+      I .4,
+    )
 
 record-is : (rest : List ℕ) → Whole rowKinds rest → All Byte rest → Row rest
 record-is rest w bytes =
@@ -145,7 +152,9 @@ module _ (s : List ℕ) (at n : ℕ) where
   is-many id C HereOnly more e h = row-open s at _ e n HereRow refl (omega arith) ∙ simp (le-ltb n mostJobs h)
   is-many id C (Either S I) more e h = row-open s at _ e n EitherRow refl (omega arith) ∙ simp (le-ltb n mostJobs h)
 
-  is-range : (id C : ℕ) (d : Sending) (more : List ℕ) → drop at s ≡ sendingBytes id C d ++ more → n < mostJobs → fine C d ≡ false → rowEntry s at n ≡ bad (Range (place at))
+  is-range :
+      (id C : ℕ) (d : Sending) (more : List ℕ) → drop at s ≡ sendingBytes id C d ++ more → n < mostJobs → fine C d ≡ false →
+      rowEntry s at n ≡ bad (Range (place at))
   is-range id C HereOnly more e h out =
       let l = sendingBytes id C HereOnly ++ more in
       row-open s at l e n HereRow refl (omega arith) ∙ simp (lt-ltb n mostJobs h, word s at l e 2, word-whole C, out)
@@ -181,7 +190,8 @@ table-or-fault s bytes = step (unread-or-whole frameKinds 0 s)
     judged : (D : ℕ) (more : List ℕ) → s ≡ frameBytes D ++ more → All Byte more → DeadlineOk D ⊎ ¬ DeadlineOk D → (o : Outcome JobTable) × TableIs s o
     judged D more e b (inl ok) =
         rows D ok
-        (rw (← e) at (listed-or-fault jobId jobBytes TimesOk rowKinds 0x1F Byte (λ j. decided (fine (j .local) (j .sending)) (fine-iff (j .id) (j .local) (j .sending))) record-is (frameBytes D) more b))
+        (rw (← e) at (listed-or-fault jobId jobBytes TimesOk rowKinds 0x1F Byte
+        (λ j. decided (fine (j .local) (j .sending)) (fine-iff (j .id) (j .local) (j .sending))) record-is (frameBytes D) more b))
     judged D more e b (inr out) = (refused (Range (place 0)), rw e (deadline D more out))
 
     step : ((f : Refusal) × Unread frameKinds 0 s f) ⊎ Whole frameKinds s → (o : Outcome JobTable) × TableIs s o

@@ -92,11 +92,11 @@ PlanIs s (refused f) = PlanFault s f
 -- What a reader says of it in numbers: 0 for a table; 0 and the number of steps for a plan; else the fault's number and place.
 pub data TableSays (s : List ℕ) : List ℕ → Type 0 where
   a-table : (t : JobTable) → TableIs s (accepted t) → TableSays s (0 ∷ [])
-  no-table : (f : Refusal) → TableFault s f → TableSays s (refusalSays f)
+  table-fault : (f : Refusal) → TableFault s f → TableSays s (refusalSays f)
 
 pub data PlanSays (s : List ℕ) : List ℕ → Type 0 where
   a-plan : (xs : List Step) → PlanIs s (accepted xs) → PlanSays s (0 ∷ length xs ∷ [])
-  no-plan : (f : Refusal) → PlanFault s f → PlanSays s (refusalSays f)
+  plan-fault : (f : Refusal) → PlanFault s f → PlanSays s (refusalSays f)
 
 -- "1 to 6 return number and place": the numbers of a fault, whose place is in the file or is its length
 pub record Placed (s ns : List ℕ) : Type 0 where

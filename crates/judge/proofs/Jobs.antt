@@ -5,7 +5,8 @@ use native.Mathlib.Omega.{arith}
 use mathlib.Core.Path.{_≡_, refl, sym, ap, subst}
 use mathlib.Core.Logic.{_⊎_, inl, inr}
 use mathlib.Core.Bool.{Bool, true, false, cond, not, _&&_, _||_, or-true}
-use mathlib.Core.List.{List, [], _∷_, _++_, map, List·Memᴰ, List·Memᴰ·head, List·Memᴰ·tail, List·Memᴰ·cases-cons, Memᴰ·map, Memᴰ·of-map, List·Permᴰ, List·Permᴰ·cons, List·Permᴰ·swap, List·Permᴰ·trans, Permᴰ·refl, Permᴰ·symm, Permᴰ·middle, append-nil}
+use mathlib.Core.List.{List, [], _∷_, _++_, map, List·Memᴰ, List·Memᴰ·head, List·Memᴰ·tail, List·Memᴰ·cases-cons, Memᴰ·map, Memᴰ·of-map, List·Permᴰ}
+use mathlib.Core.List.{List·Permᴰ·cons, List·Permᴰ·swap, List·Permᴰ·trans, Permᴰ·refl, Permᴰ·symm, Permᴰ·middle, append-nil}
 use mathlib.Core.Option.{Option, none, some}
 use lib.ListN.{length, length-map, length-append}
 use lib.Dec.{T, eqb}
@@ -52,7 +53,9 @@ module _ {A : Type 0} where
 
 -- Things whose ids differ and which are all in a list are that list, but for the rest.
 module _ {A B : Type 0} (g : A → B) (idOf : B → ℕ) where
-  rest-of : (xs : List A) (ys : List B) → Distinct (λ (x : A). idOf (g x)) xs → All (λ (x : A). List·Memᴰ (g x) ys) xs → (rest : List B) × List·Permᴰ (map g xs ++ rest) ys
+  rest-of :
+      (xs : List A) (ys : List B) → Distinct (λ (x : A). idOf (g x)) xs → All (λ (x : A). List·Memᴰ (g x) ys) xs →
+      (rest : List B) × List·Permᴰ (map g xs ++ rest) ys
   rest-of [] ys d h = (ys, Permᴰ·refl ys)
   rest-of (x ∷ xs) ys d h =
       let first = member-first (h .0) in

@@ -139,7 +139,9 @@ module _ (t : JobTable) (plan : List ℕ) (steps : ℕ) where
       whole = rw (take-all k (w .xs) (rw (w .counted) at end)) at (w .so)
 
       -- no job is left out, or one is and the steps are fewer
-      told : GoodTable t → ((length (t .jobs) ≤ steps) × (lacksOne (t .jobs) (map stepId (w .xs)) ≡ false)) ⊎ ((steps < length (t .jobs)) × (lacksOne (t .jobs) (map stepId (w .xs)) ≡ true))
+      told :
+          GoodTable t → ((length (t .jobs) ≤ steps) × (lacksOne (t .jobs) (map stepId (w .xs)) ≡ false)) ⊎
+          ((steps < length (t .jobs)) × (lacksOne (t .jobs) (map stepId (w .xs)) ≡ true))
       told good =
           let l = listed-tells (t .jobs) (w .xs) (w .cs) whole in
           let n : steps ≡ length (w .cs) = w .counted ∙ (sym (ap length (l .steps)) ∙ steps-length (w .cs)) in

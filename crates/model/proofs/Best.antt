@@ -58,7 +58,8 @@ module _ (D : ℕ) (js : List Job) where
           of = reverse (awayOrder cs);
           jobs = last-of cs (w .choice);
           feasible = f .0;
-          sum = ap (λ (l : List Job). total setupPart (reverse (awayOrder cs)) + total herePart (reverse (awayOrder cs)) + base l) (sym (w .choice .each)) ∙ busy-sum cs (w .choice .allowed) ∙ w .sum;
+          sum = ap (λ (l : List Job). total setupPart (reverse (awayOrder cs)) + total herePart (reverse (awayOrder cs)) + base l) (sym (w .choice .each)) ∙
+              busy-sum cs (w .choice .allowed) ∙ w .sum;
           bits = w .bits;
         },
         omega (arith, f .1, w .sum),
@@ -71,7 +72,8 @@ module _ (D : ℕ) (js : List Job) where
       (total-least D (reverse (orderOf js)) (base js))
 
   as-long : (cs ds : List Chosen) → Choice js cs → Choice js ds → length (reverse (awayOrder cs)) ≡ length (reverse (awayOrder ds))
-  as-long cs ds c d = job-count (reverse (awayOrder cs)) (reverse (orderOf js)) (last-of cs c) ∙ sym (job-count (reverse (awayOrder ds)) (reverse (orderOf js)) (last-of ds d))
+  as-long cs ds c d =
+      job-count (reverse (awayOrder cs)) (reverse (orderOf js)) (last-of cs c) ∙ sym (job-count (reverse (awayOrder ds)) (reverse (orderOf js)) (last-of ds d))
 
   -- the least of the workable choices is the best
   pub least-best : (a m : ℕ) → IsLeast (Work D js) (cell a m) → (cs : List Chosen) × Best D js cs × (busy cs ≡ a) × (maskOf cs ≡ m)
@@ -88,7 +90,9 @@ module _ (D : ℕ) (js : List Job) where
     where
       turn : (ds : List Chosen) → Choice js ds → LexLe a m (busy ds) (maskOf ds) → Ahead (w .of) ds
       turn ds c (inl h) = inl (omega (arith, w .sum))
-      turn ds c (inr h) = inr (w .sum ∙ h .0, mask-keeps (reverse (awayOrder (w .of))) (reverse (awayOrder ds)) (as-long (w .of) ds (w .choice) c) (omega (arith, w .bits, h .1)))
+      turn ds c (inr h) =
+          let n = as-long (w .of) ds (w .choice) c in
+          inr (w .sum ∙ h .0, mask-keeps (reverse (awayOrder (w .of))) (reverse (awayOrder ds)) n (omega (arith, w .bits, h .1)))
 
   -- the answer's cell is that of the best choice
   pub answer-best : (a m : ℕ) → answer D js ≡ cell a m → (cs : List Chosen) × Best D js cs × (busy cs ≡ a) × (maskOf cs ≡ m)
@@ -96,7 +100,8 @@ module _ (D : ℕ) (js : List Job) where
 
   -- no answer: no choice is workable
   pub answer-none : answer D js ≡ empty → (cs : List Chosen) → Choice js cs → Workable D cs → ⊥
-  answer-none e cs c w = subst (IsLeast (Work D js)) e answer-least (busy cs) (maskOf cs) (record { of = cs; choice = c; workable = w; sum = refl; bits = refl })
+  answer-none e cs c w =
+      subst (IsLeast (Work D js)) e answer-least (busy cs) (maskOf cs) (record { of = cs; choice = c; workable = w; sum = refl; bits = refl })
 
   -- some choice is best exactly when some choice is workable
   pub best-iff-workable : ((cs : List Chosen) × Best D js cs) ↔ ((cs : List Chosen) × Choice js cs × Workable D cs)
@@ -122,12 +127,14 @@ module _ (D : ℕ) (js : List Job) where
     where
       long : length (fromLast cs) ≡ length (fromLast ds)
       long =
-          length-map (reverse (awayOrder cs)) (λ (c : Chosen). c .away) ∙ as-long cs ds (b .choice) (d .choice) ∙ sym (length-map (reverse (awayOrder ds)) (λ (c : Chosen). c .away))
+          length-map (reverse (awayOrder cs)) (λ (c : Chosen). c .away) ∙ as-long cs ds (b .choice) (d .choice) ∙
+          sym (length-map (reverse (awayOrder ds)) (λ (c : Chosen). c .away))
 
       same : Keeps (fromLast cs) (fromLast ds) → Keeps (fromLast ds) (fromLast cs) → cs ≡ ds
       same k l =
           let r : reverse (awayOrder cs) ≡ reverse (awayOrder ds) =
-          chosen-ext (reverse (awayOrder cs)) (reverse (awayOrder ds)) (last-of cs (b .choice) ∙ sym (last-of ds (d .choice))) (keeps-antisym (fromLast cs) (fromLast ds) long k l) in
+          chosen-ext (reverse (awayOrder cs)) (reverse (awayOrder ds)) (last-of cs (b .choice) ∙ sym (last-of ds (d .choice)))
+          (keeps-antisym (fromLast cs) (fromLast ds) long k l) in
           order-inj cs ds (b .choice .each ∙ sym (d .choice .each)) (b .choice .allowed) (d .choice .allowed)
           (sym (reverse-reverse (awayOrder cs)) ∙ ap reverse r ∙ reverse-reverse (awayOrder ds))
 
@@ -143,8 +150,10 @@ module _ (D : ℕ) (js : List Job) where
       let n = as-long cs ds c d in
       let r : reverse (awayOrder cs) ≡ reverse (awayOrder ds) =
       chosen-ext (reverse (awayOrder cs)) (reverse (awayOrder ds)) (last-of cs c ∙ sym (last-of ds d))
-      (keeps-antisym (fromLast cs) (fromLast ds) (length-map (reverse (awayOrder cs)) (λ (x : Chosen). x .away) ∙ n ∙ sym (length-map (reverse (awayOrder ds)) (λ (x : Chosen). x .away)))
-      (mask-keeps (reverse (awayOrder cs)) (reverse (awayOrder ds)) n (omega arith)) (mask-keeps (reverse (awayOrder ds)) (reverse (awayOrder cs)) (sym n) (omega arith))) in
+      (keeps-antisym (fromLast cs) (fromLast ds)
+      (length-map (reverse (awayOrder cs)) (λ (x : Chosen). x .away) ∙ n ∙ sym (length-map (reverse (awayOrder ds)) (λ (x : Chosen). x .away)))
+      (mask-keeps (reverse (awayOrder cs)) (reverse (awayOrder ds)) n (omega arith))
+      (mask-keeps (reverse (awayOrder ds)) (reverse (awayOrder cs)) (sym n) (omega arith))) in
       order-inj cs ds (c .each ∙ sym (d .each)) (c .allowed) (d .allowed) (sym (reverse-reverse (awayOrder cs)) ∙ ap reverse r ∙ reverse-reverse (awayOrder ds))
 
   -- the choice with the answer's mask is the best

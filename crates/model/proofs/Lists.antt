@@ -84,3 +84,7 @@ module _ {A B : Type 0} (g : A → B) where
   pub pairwise-of-map : (R : B → B → Type 0) (xs : List A) → Pairwise R (map g xs) → Pairwise (λ (x y : A). R (g x) (g y)) xs
   pairwise-of-map R [] h = tt
   pairwise-of-map R (x ∷ xs) h = (all-of-map (R (g x)) xs (h .0), pairwise-of-map R xs (h .1))
+
+  pub map-pairwise : (R : B → B → Type 0) (xs : List A) → Pairwise (λ (x y : A). R (g x) (g y)) xs → Pairwise R (map g xs)
+  map-pairwise R [] h = tt
+  map-pairwise R (x ∷ xs) h = (map-all (R (g x)) xs (h .0), map-pairwise R xs (h .1))

@@ -77,7 +77,8 @@ end-read s at n p =
     (λ b h e. let after : at + 1 ≡ p = cc in rw (← after, ← b) (one-byte s at (omega arith)))
 
 -- the end of the loop, told of the list and of the count
-pub ended-count : (s : List ℕ) (xs : List Step) (at : ℕ) → endedAt s (length xs) at ≡ planRead (cond (leb (length s) at) (accepted xs) (refused (After (place at))))
+pub ended-count :
+    (s : List ℕ) (xs : List Step) (at : ℕ) → endedAt s (length xs) at ≡ planRead (cond (leb (length s) at) (accepted xs) (refused (After (place at))))
 ended-count s xs at = go (leb (length s) at)
   where
     go :

@@ -33,11 +33,14 @@ module _ (made : Drafted) (o : Option (List Chosen)) (e : made ≡ draftedOf o) 
       step (some xs) k = clash (cc)
 
   pub finish-some : (after : List ℕ) (n : ℕ) → made .found ≡ true
-      → (n ≡ length (planBytes (stepsOf (made .draft .plan)))) × (after ≡ planBytes (stepsOf (made .draft .plan)) ++ drop (length (planBytes (stepsOf (made .draft .plan)))) before)
+      → (n ≡ length (planBytes (stepsOf (made .draft .plan)))) ×
+      (after ≡ planBytes (stepsOf (made .draft .plan)) ++ drop (length (planBytes (stepsOf (made .draft .plan)))) before)
       → Finishes o before (PlanWritten n (made .draft .laid .busy) (made .draft .laid .last)) after
   finish-some after n h w = step o e (sym (ap (λ (m : Drafted). m .found) e) ∙ h)
     where
-      step : (p : Option (List Chosen)) → made ≡ draftedOf p → draftedOf p .found ≡ true → Finishes p before (PlanWritten n (made .draft .laid .busy) (made .draft .laid .last)) after
+      step :
+          (p : Option (List Chosen)) → made ≡ draftedOf p → draftedOf p .found ≡ true →
+          Finishes p before (PlanWritten n (made .draft .laid .busy) (made .draft .laid .last)) after
       step none q k = clash (cc)
       step (some xs) q k =
           let s : stepsOf (made .draft .plan) ≡ stepsFor xs = ap (λ (m : Drafted). stepsOf (m .draft .plan)) q ∙ steps-of-plan (stepsFor xs) in
@@ -55,7 +58,8 @@ module _
     (as-many : (D : ℕ) (js : List Job) (xs : List Chosen) → IsPlan D js xs → length xs ≡ length js)
   where
     -- what is found fits a plan
-    pub found-few : (s : List ℕ) (u : Table) → WholeRead s u → (made : Drafted) → made ≡ draftedOf (find (u .deadline) (jobTable u .jobs)) → made .draft .plan .count ≤ 32
+    pub found-few :
+        (s : List ℕ) (u : Table) → WholeRead s u → (made : Drafted) → made ≡ draftedOf (find (u .deadline) (jobTable u .jobs)) → made .draft .plan .count ≤ 32
     found-few s u w made e = rw e (step (find (u .deadline) (jobTable u .jobs)) refl)
       where
         step : (o : Option (List Chosen)) → find (u .deadline) (jobTable u .jobs) ≡ o → draftedOf o .draft .plan .count ≤ 32
@@ -66,7 +70,8 @@ module _
 
     -- the answer for a table that is read
     pub answered : (s : List ℕ) (u : Table) → WholeRead s u → (before : List ℕ) (r : Planned) (after : List ℕ) → longestPlan ≤ length before
-        → (made : Drafted) → made ≡ draftedOf (find (u .deadline) (jobTable u .jobs)) → ((o : Option (List Chosen)) → made ≡ draftedOf o → Finishes o before r after)
+        → (made : Drafted) → made ≡ draftedOf (find (u .deadline) (jobTable u .jobs)) →
+        ((o : Option (List Chosen)) → made ≡ draftedOf o → Finishes o before r after)
         → PlanAnswer CanMeet IsPlan s before r after
     answered s u w before r after h made e f = step (find (u .deadline) (jobTable u .jobs)) refl (f (find (u .deadline) (jobTable u .jobs)) e)
       where

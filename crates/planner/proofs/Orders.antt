@@ -42,7 +42,8 @@ module _ (s : List ℕ) (u : Table) (w : WholeRead s u) where
   free-few = found-few Met BestPlan (free mostJobs) free-finds free-misses free-many s u w
 
   pub free-answered : (before : List ℕ) (r : Planned) (after : List ℕ) → longestPlan ≤ length before
-      → (made : Drafted) → made ≡ draftedOf (free mostJobs (u .deadline) (jobTable u .jobs)) → ((o : Option (List Chosen)) → made ≡ draftedOf o → Finishes o before r after)
+      → (made : Drafted) → made ≡ draftedOf (free mostJobs (u .deadline) (jobTable u .jobs)) →
+      ((o : Option (List Chosen)) → made ≡ draftedOf o → Finishes o before r after)
       → FreeAnswer s before r after
   free-answered = answered Met BestPlan (free mostJobs) free-finds free-misses free-many s u w
 
@@ -68,7 +69,8 @@ module _ (s : List ℕ) (u : Table) (w : WholeRead s u) where
   given-few = found-few MetInOrder BestInOrder from-start given-finds given-misses given-many s u w
 
   pub given-answered : (before : List ℕ) (r : Planned) (after : List ℕ) → longestPlan ≤ length before
-      → (made : Drafted) → made ≡ draftedOf (given (u .deadline) 0 (jobTable u .jobs)) → ((o : Option (List Chosen)) → made ≡ draftedOf o → Finishes o before r after)
+      → (made : Drafted) → made ≡ draftedOf (given (u .deadline) 0 (jobTable u .jobs)) →
+      ((o : Option (List Chosen)) → made ≡ draftedOf o → Finishes o before r after)
       → GivenAnswer s before r after
   unfolding from-start
   given-answered = answered MetInOrder BestInOrder from-start given-finds given-misses given-many s u w

@@ -23,7 +23,8 @@ use Rattle.planner.specs.declared.Planned.{Planned}
 use Rattle.planner.specs.declared.Planned.the-variants.{PlanWritten, NotPlanned}
 use Rattle.planner.specs.declared.Least.{Least}
 use Rattle.planner.specs.declared.Least.the-variants.{DeadlineIs, NoDeadline}
-use Rattle.planner.specs.Answers.{plannedSays, leastSays, Refuses, Writes, PlanAnswer, no-room, bad-table, no-plan, planned, BestPlan, FreeAnswer, GivenAnswer, LeastAnswer, never-met, met-from}
+use Rattle.planner.specs.Answers.{plannedSays, leastSays, Refuses, Writes, PlanAnswer, no-room, bad-table, no-plan, planned, BestPlan, FreeAnswer}
+use Rattle.planner.specs.Answers.{GivenAnswer, LeastAnswer, never-met, met-from}
 
 -- what is said tells the answer
 pub planned-says-injective : (r q : Planned) → plannedSays r ≡ plannedSays q → r ≡ q
@@ -41,6 +42,13 @@ least-says-injective (DeadlineIs d) (DeadlineIs e) h = let x : d ≡ e = cc in a
 least-says-injective (DeadlineIs d) (NoDeadline g) h = absurd (says-not-zero g _ (sym h))
 least-says-injective (NoDeadline f) (DeadlineIs e) h = absurd (says-not-zero f _ h)
 least-says-injective (NoDeadline f) (NoDeadline g) h = ap NoDeadline (says-injective f g h)
+
+-- a best plan tells that some timetable meets D, and there is one only
+pub best-meets : (D : ℕ) (js : List Job) (xs : List Chosen) → BestPlan D js xs → Met D js
+best-meets D js xs p = timetable-iff-workable D js .1 (p .0, p .1 .choice, p .1 .workable)
+
+pub one-best : (D : ℕ) (js : List Job) (xs ys : List Chosen) → BestPlan D js xs → BestPlan D js ys → xs ≡ ys
+one-best D js xs ys p o = p .2 ∙ (ap plan (best-unique D js (p .0) (o .0) (p .1) (o .1)) ∙ sym (o .2))
 
 -- the same answer, and the same area afterwards
 abbrev pub Same : Planned → List ℕ → Planned → List ℕ → Type 0
@@ -78,13 +86,8 @@ module _ (s before : List ℕ) (r : Planned) (a : List ℕ) (q : Planned) (b : L
       planner-settled (planned l t d xs p h) (no-room m k) = absurd (omega arith)
       planner-settled (planned l t d xs p h) (bad-table m g e k) = clash (cc)
       planner-settled (planned l t d xs p h) (no-plan m u e n k) = absurd (n (rw (same-table u t e d) (possible (t .deadline) (t .jobs) xs p)))
-      planner-settled (planned l t d xs p h) (planned m u e ys o k) = both-write xs ys (unique (u .deadline) (u .jobs) xs ys (rw (same-table t u d e) at p) o) h k
-
-  best-meets : (D : ℕ) (js : List Job) (xs : List Chosen) → BestPlan D js xs → Met D js
-  best-meets D js xs p = timetable-iff-workable D js .1 (p .0, p .1 .choice, p .1 .workable)
-
-  one-best : (D : ℕ) (js : List Job) (xs ys : List Chosen) → BestPlan D js xs → BestPlan D js ys → xs ≡ ys
-  one-best D js xs ys p o = p .2 ∙ (ap plan (best-unique D js (p .0) (o .0) (p .1) (o .1)) ∙ sym (o .2))
+      planner-settled (planned l t d xs p h) (planned m u e ys o k) =
+          both-write xs ys (unique (u .deadline) (u .jobs) xs ys (rw (same-table t u d e) at p) o) h k
 
   pub free-settled : FreeAnswer s before r a → FreeAnswer s before q b → Same r a q b
   free-settled = planner-settled Met BestPlan best-meets one-best

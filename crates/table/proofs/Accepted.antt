@@ -61,7 +61,8 @@ accepted-good s t e =
 
 -- what the code holds of it reads as the same table, and is sound
 pub held-table : (t : JobTable) → jobTable (tableOf (t .deadline) (t .jobs)) ≡ t
-held-table t = let e = take-at (t .jobs) (replicate (mostJobs - length (t .jobs)) noJob) (length (t .jobs)) refl in λ i. record { deadline = t .deadline; jobs = e i }
+held-table t =
+    let e = take-at (t .jobs) (replicate (mostJobs - length (t .jobs)) noJob) (length (t .jobs)) refl in λ i. record { deadline = t .deadline; jobs = e i }
 
 pub held-sound : (t : JobTable) → GoodTable t → Sound (tableOf (t .deadline) (t .jobs))
 held-sound t g = record { few = g .few; good = rw held-table g }

@@ -211,7 +211,8 @@ module _ {A : Type 0} (idOf : A → ℕ) (s : List ℕ) (entryAt : ℕ → ℕ �
       listed-all idOf entryAt (length s)
       (λ (xs : List A) (at : ℕ). drop start s ≡ flatMap bytesOf xs ++ drop at s) (λ (xs : List A). drop start s ≡ flatMap bytesOf xs ++ endBytes)
       (λ xs at x p i a u. i ∙ (ap (λ (l : List ℕ). flatMap bytesOf xs ++ l) (one-bytes at (length xs) x p a) ∙ sym (flat-more bytesOf xs x (drop p s))))
-      (λ xs at p i a h. i ∙ ap (λ (l : List ℕ). flatMap bytesOf xs ++ l) (end-bytes at (length xs) p a ∙ rw (drop-of-length-le s {i = p} h) (append-nil endBytes)))
+      (λ xs at p i a h. i ∙ ap (λ (l : List ℕ). flatMap bytesOf xs ++ l)
+      (end-bytes at (length xs) p a ∙ rw (drop-of-length-le s {i = p} h) (append-nil endBytes)))
       (suc mostJobs) [] start refl
 
   -- what is to be read from `at` on, where xs stands before
@@ -220,7 +221,8 @@ module _ {A : Type 0} (idOf : A → ℕ) (s : List ℕ) (entryAt : ℕ → ℕ �
 
   module _
       (Good : A → Type 0)
-      (reads : (at n : ℕ) (x : A) (rest : List ℕ) → drop at s ≡ bytesOf x ++ rest → n < mostJobs → Good x → entryAt at n ≡ one x (at + length (bytesOf x))) where
+      (reads :
+      (at n : ℕ) (x : A) (rest : List ℕ) → drop at s ≡ bytesOf x ++ rest → n < mostJobs → Good x → entryAt at n ≡ one x (at + length (bytesOf x))) where
     -- the bytes of a good list are read as that list, whatever follows them
     pub good-read :
         (ys xs : List A) (at : ℕ) (rest : List ℕ) → length xs + length ys ≤ mostJobs → Distinct idOf (xs ++ ys) → All Good ys →

@@ -17,7 +17,8 @@ use Rattle.table.specs.declared.JobRead.the-variants.{JobRefused}
 use Rattle.table.specs.Limits.{mostJobs}
 use Rattle.table.specs.Refusals.{accepted}
 use Rattle.table.specs.Records.{wordAt, formOf, frameOnly, rowOnly, one, last}
-use Rattle.table.specs.Tables.{JobTable, TimesOk, GoodTable, deadlineAt, frameAt, rowBody, jobAt, jobEntry, jobId, jobsRead, readTable, sendingBytes, jobBytes, tableBytes}
+use Rattle.table.specs.Tables.{JobTable, TimesOk, GoodTable, deadlineAt, frameAt, rowBody, jobAt, jobEntry, jobId, jobsRead, readTable, sendingBytes}
+use Rattle.table.specs.Tables.{jobBytes, tableBytes}
 use Rattle.table.proofs.Records.{rowByte, rowLength, frame-form, row-form, opened}
 use Rattle.table.proofs.Listed.{listed-back}
 use Rattle.table.proofs.Tables.{rowEntry}

@@ -168,4 +168,5 @@ module _ {K R : Type 0} (refuse : Refusal → R) (read : K → R) (may : Meaning
           at < length s → (o : Option K) → may (formOf (getD s at 0) .meaning) ≡ o →
           P (allowed refuse read at (leb (formOf (getD s at 0) .body) (length s - (at + 1))) o)
       meant there none m = out (Kind (place at))
-      meant there (some k) m = cond-all P (leb (formOf (getD s at 0) .body) (length s - (at + 1))) (λ e. opens k there m (leb-true _ _ e)) (λ e. out (Short (place at)))
+      meant there (some k) m =
+          cond-all P (leb (formOf (getD s at 0) .body) (length s - (at + 1))) (λ e. opens k there m (leb-true _ _ e)) (λ e. out (Short (place at)))

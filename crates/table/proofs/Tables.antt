@@ -25,7 +25,8 @@ use Rattle.table.specs.declared.TableVerdict.the-variants.{Whole, Refuse
 use Rattle.table.specs.Limits.{mostJobs, largestTime}
 use Rattle.table.specs.Refusals.{place, Outcome, accepted, refused}
 use Rattle.table.specs.Records.{wordAt, frameOnly, rowOnly, Entry, one, last, bad}
-use Rattle.table.specs.Tables.{timeOk, deadlineAt, frameAt, hereAt, eitherAt, rowBody, jobAt, jobEntry, withDeadline, tableOf, tableRead, emptyTable, endVerdict, isWhole}
+use Rattle.table.specs.Tables.{timeOk, deadlineAt, frameAt, hereAt, eitherAt, rowBody, jobAt, jobEntry, withDeadline, tableOf, tableRead, emptyTable}
+use Rattle.table.specs.Tables.{endVerdict, isWhole}
 use Rattle.table.proofs.Records.{rowByte, rowLength, cond-all, frame-kind, row-kind, is-frame, is-row, judged-all}
 use Rattle.table.proofs.Listed.{padded-more}
 
