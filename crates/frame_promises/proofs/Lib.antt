@@ -1,0 +1,5 @@
+pub mod Laws
+pub mod Agrees
+pub mod Told
+pub mod Replies
+pub mod Since
