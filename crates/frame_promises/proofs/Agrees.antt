@@ -168,7 +168,7 @@ module _ (f : Frame) (fine : Fine f) (o : open? f ≡ true) (b : Last) (a : Agre
     abbrev panelOut : Bool
     panelOut = used (b .out) (panelEntry f .id)
 
-    silent : reportOf (b .reports) (panelEntry f .id) ≡ none
+    pub silent : reportOf (b .reports) (panelEntry f .id) ≡ none
     silent =
         unheard-of (f .number) (f .deadline) panelOut (reportOf (b .reports) (panelEntry f .id)) (panelEntry f .standing) waiting
         (a .stands place place-in)

@@ -1,7 +1,7 @@
 -- One law for each word of specs/History.antt that goes over a list. Assumes nothing.
 use Prim.Native.Nat.{ℕ, zero, suc, _≤_, _<_}
 use native.Mathlib.Omega.{arith}
-use mathlib.Core.Path.{_≡_, refl, sym, ap}
+use mathlib.Core.Path.{_≡_, refl, sym, _∙_, ap}
 use mathlib.Core.Bool.{Bool, true, false, cond, _||_}
 use mathlib.Core.List.{List, [], _∷_, List·Memᴰ, List·Memᴰ·head, List·Memᴰ·tail}
 use mathlib.Core.Option.{some, none}
@@ -18,11 +18,18 @@ use Rattle.table.proofs.Refusals.{says-numbered}
 use Rattle.judge.specs.Check.{jobOf}
 use Rattle.frame.specs.Step.{says}
 use Rattle.frame.specs.Run.{Call}
-use Rattle.frame_promises.specs.History.{Report, History, told, reportOf, without}
+use Rattle.frame.proofs.Laws.{false-true}
+use Rattle.frame_promises.specs.History.{Report, History, isAccepted, told, reportOf, without}
 
--- a refused call changes nothing
+-- a refused call is not accepted, and changes nothing
+not-zero : (r : Refusal) → isAccepted (says (refusalSays r)) ≡ false
+not-zero r = ne-eqb (getD (refusalSays r) 0 0) 0 (λ e. omega (arith, says-numbered r))
+
+pub refused-not : (r : Refusal) → isAccepted (says (refusalSays r)) ≡ true → ⊥
+refused-not r a = false-true (sym (not-zero r) ∙ a)
+
 pub refused-told : (h : History) (c : Call) (r : Refusal) → told h c (says (refusalSays r)) ≡ h
-refused-told h c r = rw (ne-eqb (getD (refusalSays r) 0 0) 0 (λ e. omega (arith, says-numbered r)))
+refused-told h c r = rw (not-zero r)
 
 -- ---- ids in a list
 

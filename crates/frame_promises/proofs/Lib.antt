@@ -1,5 +1,6 @@
 pub mod Laws
+pub mod Since
 pub mod Agrees
 pub mod Told
 pub mod Replies
-pub mod Since
+pub mod Readings

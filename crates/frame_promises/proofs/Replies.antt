@@ -2,7 +2,7 @@
 -- the runner's to choose. Assumes nothing.
 use Prim.Native.Nat.{ℕ}
 use mathlib.Core.Path.{_≡_, refl, sym, _∙_, ap, subst}
-use mathlib.Core.List.{List, [], _∷_, _++_, map}
+use mathlib.Core.List.{List, [], _∷_, _++_, map, append-assoc, append-nil}
 use Rattle.frame.specs.Step.{Said, answerSays}
 use Rattle.frame.specs.Step as step
 use Rattle.frame.specs.Run.{Call, begin, event, stepOf}
@@ -13,53 +13,73 @@ use Rattle.frame.proofs.Reached.{Fine, call-fine, idle-fine}
 use Rattle.frame_promises.specs.History.{Turn, History, idle, reply, told, history, replies}
 use Rattle.frame_promises.specs.Runs.{Allows, Runs, FromIdle}
 use Rattle.frame_promises.proofs.Agrees.{Tells}
-use Rattle.frame_promises.proofs.Told.{fits}
+use Rattle.frame_promises.proofs.Told.{fits, clear}
+use Rattle.frame_promises.proofs.Since.{Traced, turn-on}
 
 -- what the contract allows is the step
 allowed : (f : Frame) (c : Call) (s : Step) → Allows f c s → s ≡ stepOf c f
 allowed f (begin table plan n) s e = e
 allowed f (event x) s e = e
 
--- one turn: the answer, and what is known of the record after it
-record Next (h : History) (t : Turn) (g : Frame) : Type 0 where
+-- where a sequence has come to: what is known of the record, and of the turns before
+record Arrived (ts : List Turn) (h : History) (rest : List Turn) : Type 0 where
+  at : Frame
+  fine : Fine at
+  tells : Tells at h
+  traced : Traced ts h
+  runs : Runs Allows at rest
+
+module _ (ts : List Turn) (h : History) (t : Turn) (rest : List Turn) (r : Arrived ts h (t ∷ rest)) where
+  abbrev next : Step
+  next = r .runs .0
+
+  is-next : next ≡ stepOf (t .call) (r .at)
+  is-next = allowed (r .at) (t .call) next (r .runs .1)
+
   answered : t .said ≡ reply h (t .call)
-  fine : Fine g
-  tells : Tells g (told h (t .call) (t .said))
+  answered = r .runs .2 ∙ ap (λ (x : Step). answerSays (x .answer)) is-next ∙ fits (r .at) (r .fine) h (r .tells) (t .call) .0
 
-one-turn : (f : Frame) → Fine f → (h : History) → Tells f h → (t : Turn) (s : Step) → Allows f (t .call) s → t .said ≡ answerSays (s .answer) → Next h t (s .frame)
-one-turn f fine h a t s may said =
-    let e = allowed f (t .call) s may in
-    let w = fits f fine h a (t .call) in
-    let is : t .said ≡ reply h (t .call) = said ∙ ap (λ (x : Step). answerSays (x .answer)) e ∙ w .0 in
-    record {
-      answered = is;
-      fine = subst (λ (x : Step). Fine (x .frame)) (sym e) (call-fine f fine (t .call));
-      tells = subst (λ (x : Step). Tells (x .frame) (told h (t .call) (t .said))) (sym e) (rw is (w .1));
-    }
+  goes-on : Arrived (ts ++ (t ∷ [])) (told h (t .call) (t .said)) rest
+  goes-on = record {
+    at = next .frame;
+    fine = subst (λ (x : Step). Fine (x .frame)) (sym is-next) (call-fine (r .at) (r .fine) (t .call));
+    tells =
+        subst (λ (x : Step). Tells (x .frame) (told h (t .call) (t .said))) (sym is-next)
+        (rw answered (fits (r .at) (r .fine) h (r .tells) (t .call) .1));
+    traced = turn-on ts h (r .traced) (clear (r .at) (r .fine) h (r .tells)) t answered;
+    runs = r .runs .3;
+  }
 
--- the turns after it
-from : (ts : List Turn) (f : Frame) → Fine f → (h : History) → Tells f h → Runs Allows f ts → map (λ (t : Turn). t .said) ts ≡ replies h (map (λ (t : Turn). t .call) ts)
+starts : (ts : List Turn) → FromIdle ts → Arrived [] idle ts
+starts ts (f, first, r) = record { at = f; fine = subst Fine (sym first) idle-fine; tells = rw first refl; traced = tt; runs = r }
+
+-- the answers of the turns to come
+answers : (ts rest : List Turn) (h : History) → Arrived ts h rest → map (λ (t : Turn). t .said) rest ≡ replies h (map (λ (t : Turn). t .call) rest)
 unfolding replies
-from [] f fine h a r = refl
-from (t ∷ ts) f fine h a (s, may, said, r) =
-    let n = one-turn f fine h a t s may said in
-    let on = from ts (s .frame) (n .fine) (told h (t .call) (t .said)) (n .tells) r in
-    rw (← n .answered) (ap (λ (rest : List Said). t .said ∷ rest) on)
+answers ts [] h r = refl
+answers ts (t ∷ rest) h r =
+    let on = answers (ts ++ (t ∷ [])) rest (told h (t .call) (t .said)) (goes-on ts h t rest r) in
+    rw (← answered ts h t rest r) (ap (λ (l : List Said). t .said ∷ l) on)
 
-at-turn : (before : List Turn) (t : Turn) (after : List Turn) (f : Frame) → Fine f → (h : History) → Tells f h → Runs Allows f (before ++ (t ∷ after)) → t .said ≡ reply (history h before) (t .call)
+-- after some of them
+arrives : (ts before rest : List Turn) (h : History) → Arrived ts h (before ++ rest) → Arrived (ts ++ before) (history h before) rest
 unfolding history
-at-turn [] t after f fine h a (s, may, said, r) = one-turn f fine h a t s may said .answered
-at-turn (u ∷ before) t after f fine h a (s, may, said, r) =
-    let n = one-turn f fine h a u s may said in
-    at-turn before t after (s .frame) (n .fine) (told h (u .call) (u .said)) (n .tells) r
+arrives ts [] rest h r = rw append-nil r
+arrives ts (t ∷ before) rest h r =
+    rw (append-assoc ts (t ∷ []) before) at
+    (arrives (ts ++ (t ∷ [])) before rest (told h (t .call) (t .said)) (goes-on ts h t (before ++ rest) r))
+
+pub traced : (before rest : List Turn) → FromIdle (before ++ rest) → Traced before (history idle before)
+traced before rest r = arrives [] before rest idle (starts (before ++ rest) r) .traced
 
 -- all the answers of a sequence
 pub replies-told : (ts : List Turn) → FromIdle ts → map (λ (t : Turn). t .said) ts ≡ replies idle (map (λ (t : Turn). t .call) ts)
-replies-told ts (f, starts, r) = from ts f (subst Fine (sym starts) idle-fine) idle (rw starts refl) r
+replies-told ts r = answers [] ts idle (starts ts r)
 
 -- and each by the turns before it
 pub reply-told : (before : List Turn) (t : Turn) (after : List Turn) → FromIdle (before ++ (t ∷ after)) → t .said ≡ reply (history idle before) (t .call)
-reply-told before t after (f, starts, r) = at-turn before t after f (subst Fine (sym starts) idle-fine) idle (rw starts refl) r
+reply-told before t after r =
+    answered before (history idle before) t after (arrives [] before (t ∷ after) idle (starts (before ++ (t ∷ after)) r))
 
 module _ (before : List Turn) (r : Said) (after : List Turn) where
   -- a read; a next

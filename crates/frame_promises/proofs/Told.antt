@@ -50,7 +50,8 @@ use Rattle.frame.proofs.Passed.{Passed, passed}
 use Rattle.frame.proofs.Reached.{Fine}
 use Rattle.frame_promises.specs.History.{Report, Last, History, idle, opened, closed, done, refuse, begins, nexts, onClock, valued, spanEnds, returns, closes, reading, readIn, reads, inOpen, inClosed, reply, opens, accepts, isAccepted, told, reportOf}
 use Rattle.frame_promises.proofs.Laws.{refused-told, in-table, not-in-table, drop-all}
-use Rattle.frame_promises.proofs.Agrees.{Unheard, Stood, Agrees, Tells, goes-out, has-value, comes-back, is-closed, begun-agrees}
+use Rattle.frame_promises.proofs.Since.{Clear}
+use Rattle.frame_promises.proofs.Agrees.{Stood, Agrees, Tells, silent, goes-out, has-value, comes-back, is-closed, begun-agrees}
 
 -- a step fits a reply: it is what the answer says, and the record after it is that of the history after it
 abbrev pub Fits : Call → History → Step → Said → Type 0
@@ -264,6 +265,36 @@ module _ (f : Frame) (fine : Fine f) where
     open-fits (E.Return n id t v) = back-fits n id t v
     open-fits (E.Close t) = close-fits t
     open-fits (E.Read id) = asked (readOf f id) _ (read-is b a (says (0 ∷ 1 ∷ [])) (rw is) id (begun-is Open is)) (E.Read id) refl
+
+    -- of no job that is to come or out has anything been heard
+    next-silent : (x : plan.Step) (xs : List plan.Step) → b .to-come ≡ x ∷ xs → reportOf (b .reports) (x .id) ≡ none
+    next-silent x xs e = at (ltb (f .next) (f .count)) refl
+      where
+        at : (w : Bool) → ltb (f .next) (f .count) ≡ w → reportOf (b .reports) (x .id) ≡ none
+        at true q =
+            let h : f .next < f .count = ltb-true _ _ q in
+            let same : getD (a .plan) (f .next) noStep ≡ x = let z = sym (now h) ∙ e in cc in
+            rw (a .steps (f .next) h, same) at (silent f fine o b a h)
+        at false q = let z : [] ≡ x ∷ xs = sym (over q) ∙ e in clash (cc)
+
+    stood-silent :
+        (out : Bool) → out ≡ true → (p : Option Report) (s : Standing) → Stood (f .number) (f .deadline) out p s → p ≡ none
+    stood-silent out is none s w = refl
+    stood-silent out is (some r) s w = absurd (false-true (sym (w .1) ∙ is))
+
+    out-silent : (id : ℕ) → used (b .out) id ≡ true → reportOf (b .reports) id ≡ none
+    out-silent id e = at (whereIs f id) refl
+      where
+        at : (w : Found) → whereIs f id ≡ w → reportOf (b .reports) id ≡ none
+        at (At i) q =
+            let w = somewhere id i q in
+            stood-silent (used (b .out) id) e (reportOf (b .reports) id) (entryAt (f .entries) i .standing) (rw (w .1) at (a .stands i (w .0)))
+        at Nothing q = absurd (false-true (sym (a .strangers id (nowhere id q)) ∙ e))
+
+  pub clear : (h : History) → Tells f h → Clear h
+  clear idle a = tt
+  clear (opened b) a = record { next-silent = next-silent b (a .0) (a .1); out-silent = out-silent b (a .0) (a .1) }
+  clear (closed b) a = tt
 
   -- ---- a frame that is not open
 

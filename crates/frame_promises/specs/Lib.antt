@@ -1,3 +1,3 @@
 pub mod History
 pub mod Runs
-pub mod Reads
+pub mod Readings
