@@ -4,3 +4,5 @@ pub mod Agrees
 pub mod Told
 pub mod Replies
 pub mod Readings
+pub mod Numbers
+pub mod Apart

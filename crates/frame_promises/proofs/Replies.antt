@@ -81,6 +81,22 @@ pub reply-told : (before : List Turn) (t : Turn) (after : List Turn) → FromIdl
 reply-told before t after r =
     answered before (history idle before) t after (arrives [] before (t ∷ after) idle (starts (before ++ (t ∷ after)) r))
 
+-- so that each turn's answer is known by what was told before
+abbrev pub Replied : History → List Turn → Type 0
+Replied h [] = Unit {0}
+Replied h (t ∷ ts) = (t .said ≡ reply h (t .call)) × Replied (told h (t .call) (t .said)) ts
+
+replied-from : (ts rest : List Turn) (h : History) → Arrived ts h rest → Replied h rest
+replied-from ts [] h r = tt
+replied-from ts (t ∷ rest) h r =
+    (answered ts h t rest r, replied-from (ts ++ (t ∷ [])) rest (told h (t .call) (t .said)) (goes-on ts h t rest r))
+
+pub replied-all : (ts : List Turn) → FromIdle ts → Replied idle ts
+replied-all ts r = replied-from [] ts idle (starts ts r)
+
+pub replied : (before rest : List Turn) → FromIdle (before ++ rest) → Replied (history idle before) rest
+replied before rest r = replied-from before rest (history idle before) (arrives [] before rest idle (starts (before ++ rest) r))
+
 module _ (before : List Turn) (r : Said) (after : List Turn) where
   -- a read; a next
   pub reads-told :

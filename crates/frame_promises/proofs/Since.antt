@@ -217,7 +217,7 @@ module _ {ts : List Turn} {b : Last} {shut : Bool} (w : Since ts b shut) (t : Tu
 
 -- ---- what an accepted call shows
 
-refused-else : (w : Bool) (p q : Said) → isAccepted q ≡ false → isAccepted (cond w p q) ≡ true → (w ≡ true) × (isAccepted p ≡ true)
+pub refused-else : (w : Bool) (p q : Said) → isAccepted q ≡ false → isAccepted (cond w p q) ≡ true → (w ≡ true) × (isAccepted p ≡ true)
 refused-else true p q un a = (refl, a)
 refused-else false p q un a = absurd (false-true (sym un ∙ a))
 
@@ -226,13 +226,13 @@ else-only true p q un a = absurd (false-true (sym un ∙ a))
 else-only false p q un a = a
 
 -- the job on the panel
-record OnPanel (xs : List plan.Step) (id : ℕ) : Type 0 where
-  first : plan.Step
-  rest : List plan.Step
-  are : xs ≡ first ∷ rest
-  named : first .id ≡ id
+pub record OnPanel (xs : List plan.Step) (id : ℕ) : Type 0 where
+  pub first : plan.Step
+  pub rest : List plan.Step
+  pub are : xs ≡ first ∷ rest
+  pub named : first .id ≡ id
 
-span-accepted : (b : Last) (id t : ℕ) (v : Float) (xs : List plan.Step) → isAccepted (onClock b t (spanEnds xs id v)) ≡ true → OnPanel xs id
+pub span-accepted : (b : Last) (id t : ℕ) (v : Float) (xs : List plan.Step) → isAccepted (onClock b t (spanEnds xs id v)) ≡ true → OnPanel xs id
 span-accepted b id t v [] a = absurd (false-true (else-only (ltb t (b .clock)) (refuse 14) (refuse 15) refl a))
 span-accepted b id t v (x ∷ xs) a =
     let w = refused-else (eqb (x .id) id) _ _ refl (else-only (ltb t (b .clock)) (refuse 14) _ refl a) in
@@ -335,11 +335,11 @@ module _ {ts : List Turn} {b : Last} (w : Since ts b false) (one : OneReport b) 
 
 -- ---- a begin that is accepted has bytes that read
 
-record Bytes (table s : List ℕ) : Type 0 where
-  jobs : JobTable
-  is-table : readTable table ≡ accepted jobs
-  steps : List plan.Step
-  is-plan : readPlan s ≡ accepted steps
+pub record Bytes (table s : List ℕ) : Type 0 where
+  pub jobs : JobTable
+  pub is-table : readTable table ≡ accepted jobs
+  pub steps : List plan.Step
+  pub is-plan : readPlan s ≡ accepted steps
 
 module _ (table s : List ℕ) (above : Bool) where
   fails : {P : Type 0} (r : Refusal) → isAccepted (says (refusalSays r)) ≡ true → P
@@ -353,7 +353,7 @@ module _ (table s : List ℕ) (above : Bool) where
   table-bytes (accepted j) e a = plan-bytes j e (readPlan s) refl a
   table-bytes (outcome.refused r) e a = fails r a
 
-  begin-bytes : isAccepted (begins (checkPlan table s) above) ≡ true → Bytes table s
+  pub begin-bytes : isAccepted (begins (checkPlan table s) above) ≡ true → Bytes table s
   unfolding checkPlan
   begin-bytes = table-bytes (readTable table) refl
 

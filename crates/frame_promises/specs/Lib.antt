@@ -1,3 +1,4 @@
 pub mod History
 pub mod Runs
 pub mod Readings
+pub mod Sequences
