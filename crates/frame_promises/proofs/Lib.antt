@@ -6,3 +6,6 @@ pub mod Replies
 pub mod Readings
 pub mod Numbers
 pub mod Apart
+pub mod Begins
+pub mod Going
+pub mod Own

@@ -74,13 +74,13 @@ one-split [] (y ∷ ys) t u l m e p q b c = let z : l ≡ ys ++ (u ∷ m) = cc i
 one-split (x ∷ xs) [] t u l m e p q b c = let z : m ≡ xs ++ (t ∷ l) = cc in absurd (behind xs t l (rw z at q) b)
 one-split (x ∷ xs) (y ∷ ys) t u l m e p q b c = one-split xs ys t u l m (cc) p q b c
 
-record Same (n m : ℕ) (j k : JobTable) (xs ys : List plan.Step) (l r : List Turn) : Type 0 where
-  numbers : n ≡ m
-  tables : j ≡ k
-  plans : xs ≡ ys
-  turns : l ≡ r
+pub record Same (n m : ℕ) (j k : JobTable) (xs ys : List plan.Step) (l r : List Turn) : Type 0 where
+  pub numbers : n ≡ m
+  pub tables : j ≡ k
+  pub plans : xs ≡ ys
+  pub turns : l ≡ r
 
-same-begin :
+pub same-begin :
     {ts l r : List Turn} {n m : ℕ} {j k : JobTable} {xs ys : List plan.Step} → LastBegin ts n j xs l → LastBegin ts m k ys r → Same n m j k xs ys l r
 same-begin {l = l} {r = r} {n = n} {m = m} p q =
     let w = one-split (p .before) (q .before) (p .turn) (q .turn) l r (sym (p .turns) ∙ q .turns) (p .last) (q .last) (begins p) (begins q) in
@@ -91,7 +91,7 @@ same-begin {l = l} {r = r} {n = n} {m = m} p q =
     let steps : outcome.accepted _ ≡ outcome.accepted _ = sym (p .is-plan) ∙ ap readPlan same-plan ∙ q .is-plan in
     record { numbers = cc; tables = cc; plans = cc; turns = w .1 }
 
-never-and-last : {ts since : List Turn} {number : ℕ} {jobs : JobTable} {steps : List plan.Step} → All NoBegin ts → LastBegin ts number jobs steps since → ⊥
+pub never-and-last : {ts since : List Turn} {number : ℕ} {jobs : JobTable} {steps : List plan.Step} → All NoBegin ts → LastBegin ts number jobs steps since → ⊥
 never-and-last {since = since} all l = behind (l .before) (l .turn) since (rw (l .turns) at all) (begins l)
 
 -- ---- a frame that was begun
