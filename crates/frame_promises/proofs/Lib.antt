@@ -9,3 +9,4 @@ pub mod Apart
 pub mod Begins
 pub mod Going
 pub mod Own
+pub mod Played
