@@ -10,3 +10,5 @@ pub mod Begins
 pub mod Going
 pub mod Own
 pub mod Played
+pub mod Lent
+pub mod Examples
