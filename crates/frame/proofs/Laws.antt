@@ -1,16 +1,16 @@
 -- Laws of the definitions that go position by position: a turn of each loop and its end; and what the tests of a record say.
 -- Assumes nothing.
-use mathlib.Core.Path.{_≡_, refl, ap}
+use mathlib.Core.Path.{_≡_, refl, sym, ap}
 use mathlib.Core.Logic.{inl, inr}
 use mathlib.Core.List.{List}
 use native.Mathlib.Nat.{eq-or-lt-of-le}
 use lib.ListN.{getD}
-use mathlib.Core.Bool.{Bool, true, false, not, _&&_}
+use mathlib.Core.Bool.{Bool, true, false, cond, _&&_}
 use borrow.Author.Tests.{leb-true, ltb-true, eqb-true, eqb-false}
 use Prim.Native.Nat.{ℕ, zero, suc, _+_, _-_, _<_, _≤_}
 use native.Mathlib.Omega.{arith}
 use lib.Dec.{eqb}
-use Rattle.frame.specs.Sound.{pick, placeAt, first, okOrder, okAt, okFrom, okCounts, okDeadline, okBegun, okIn, isOpen, isIdle, sound?, open?, begun?}
+use Rattle.frame.specs.Sound.{placeAt, first, okOrder, okAt, okFrom, okCounts, okDeadline, okBegun, okIn, phaseIn, isOpen, sound?, open?, begun?, ready?}
 use Rattle.frame.specs.declared.Phase.{Phase}
 use Rattle.frame.specs.declared.Phase.the-variants.{Idle, Open, Closed}
 use Rattle.frame.specs.declared.Frame.{Frame}
@@ -35,7 +35,7 @@ and-both false b p q = p
 
 -- what holds of both results of a test holds of the one that is picked
 module _ {A : Type 0} (Q : A → Type 0) where
-  pub either : (b : Bool) (x y : A) → (b ≡ true → Q x) → (b ≡ false → Q y) → Q (pick b x y)
+  pub either : (b : Bool) (x y : A) → (b ≡ true → Q x) → (b ≡ false → Q y) → Q (cond b x y)
   either true x y p q = p refl
   either false x y p q = q refl
 
@@ -48,7 +48,7 @@ over : (k c : ℕ) → c ≤ k → c - k ≡ 0
 over k c h = omega arith
 
 module _ {A : Type 0} (key : A → ℕ) (d : A) (xs : List A) (x k c : ℕ) where
-  pub first-turn : k < c → first key d xs x k (c - k) ≡ pick (eqb (key (getD xs k d)) x) (At k) (first key d xs x (k + 1) (c - (k + 1)))
+  pub first-turn : k < c → first key d xs x k (c - k) ≡ cond (eqb (key (getD xs k d)) x) (At k) (first key d xs x (k + 1) (c - (k + 1)))
   unfolding first
   first-turn h = rw (less k c h)
 
@@ -73,7 +73,7 @@ at-same k i e = cc
 nothing-at : (i : ℕ) → Nothing ≡ At i → ⊥
 nothing-at i e = let z : _≡_ {A = ℕ} 0 1 = cc in omega arith
 
-below-step : (b : Bool) (k i n : ℕ) (rest : Found) → pick b (At k) rest ≡ At i → (rest ≡ At i → i < k + 1 + n) → i < k + suc n
+below-step : (b : Bool) (k i n : ℕ) (rest : Found) → cond b (At k) rest ≡ At i → (rest ≡ At i → i < k + 1 + n) → i < k + suc n
 below-step true k i n rest e r = omega (arith, at-same k i e)
 below-step false k i n rest e r = omega (arith, r e)
 
@@ -84,7 +84,7 @@ module _ {A : Type 0} (key : A → ℕ) (d : A) (xs : List A) (x : ℕ) where
   first-below k zero i e = absurd (nothing-at i e)
   first-below k (suc n) i e = below-step (eqb (key (getD xs k d)) x) k i n (first key d xs x (k + 1) n) e (first-below (k + 1) n i)
 
-  has-step : (k i : ℕ) (rest : Found) (b : Bool) → eqb (key (getD xs k d)) x ≡ b → pick b (At k) rest ≡ At i → (rest ≡ At i → key (getD xs i d) ≡ x) → key (getD xs i d) ≡ x
+  has-step : (k i : ℕ) (rest : Found) (b : Bool) → eqb (key (getD xs k d)) x ≡ b → cond b (At k) rest ≡ At i → (rest ≡ At i → key (getD xs i d) ≡ x) → key (getD xs i d) ≡ x
   has-step k i rest true t e r = rw (← at-same k i e) (eqb-true _ _ t)
   has-step k i rest false t e r = r e
 
@@ -96,7 +96,7 @@ module _ {A : Type 0} (key : A → ℕ) (d : A) (xs : List A) (x : ℕ) where
 
   -- no position before it has the key
   least-step :
-      (k i m : ℕ) (rest : Found) (b : Bool) → eqb (key (getD xs k d)) x ≡ b → pick b (At k) rest ≡ At m →
+      (k i m : ℕ) (rest : Found) (b : Bool) → eqb (key (getD xs k d)) x ≡ b → cond b (At k) rest ≡ At m →
       (k < i → rest ≡ At m → key (getD xs i d) ≡ x → ⊥) → k ≤ i → i < m → key (getD xs i d) ≡ x → ⊥
   least-step k i m rest true t e on p q is = omega (arith, at-same k m e)
   least-step k i m rest false t e on p q is =
@@ -113,7 +113,7 @@ module _ {A : Type 0} (key : A → ℕ) (d : A) (xs : List A) (x : ℕ) where
   -- a position that has the key, and none before it has, is the first
   found-step :
       (k m : ℕ) (rest : Found) (b : Bool) → eqb (key (getD xs k d)) x ≡ b → k ≤ m → key (getD xs m d) ≡ x →
-      ((i : ℕ) → k ≤ i → i < m → key (getD xs i d) ≡ x → ⊥) → (k < m → rest ≡ At m) → pick b (At k) rest ≡ At m
+      ((i : ℕ) → k ≤ i → i < m → key (getD xs i d) ≡ x → ⊥) → (k < m → rest ≡ At m) → cond b (At k) rest ≡ At m
   found-step k m rest true t p is none on =
       elim (eq-or-lt-of-le p) [
         | inl same ↦ ap At same
@@ -140,7 +140,7 @@ module _ {A : Type 0} (key : A → ℕ) (d : A) (xs : List A) (x : ℕ) where
   first-some k zero i p q is = absurd (omega arith)
   first-some k (suc n) i p q is = some-step (eqb (key (getD xs k d)) x) refl (λ more. first-some (k + 1) n i more (omega arith) is)
     where
-      some-step : (b : Bool) → eqb (key (getD xs k d)) x ≡ b → (k + 1 ≤ i → (m : ℕ) × (first key d xs x (k + 1) n ≡ At m)) → (m : ℕ) × (pick b (At k) (first key d xs x (k + 1) n) ≡ At m)
+      some-step : (b : Bool) → eqb (key (getD xs k d)) x ≡ b → (k + 1 ≤ i → (m : ℕ) × (first key d xs x (k + 1) n ≡ At m)) → (m : ℕ) × (cond b (At k) (first key d xs x (k + 1) n) ≡ At m)
       some-step true t on = (k, refl)
       some-step false t on =
           elim (eq-or-lt-of-le p) [
@@ -177,7 +177,7 @@ open-in Idle f e = absurd (false-true e)
 open-in Open f e = and-left _ _ e
 open-in Closed f e = absurd (false-true (and-right (okBegun f) _ e))
 
-begun-in : (p : Phase) (f : Frame) → (okIn p f && not (isIdle p)) ≡ true → okBegun f ≡ true
+begun-in : (p : Phase) (f : Frame) → (okIn p f && phaseIn false true true p) ≡ true → okBegun f ≡ true
 begun-in Idle f e = absurd (false-true e)
 begun-in Open f e = and-left _ _ e
 begun-in Closed f e = and-left _ _ e
@@ -189,6 +189,20 @@ open-begun f e = open-in (f .phase) f e
 pub begun-begun : (f : Frame) → begun? f ≡ true → okBegun f ≡ true
 unfolding begun? sound?
 begun-begun f e = begun-in (f .phase) f e
+
+-- what the test of a phase answers
+module _ (f : Frame) (r : Bool) where
+  pub is-open : r ≡ (sound? f && phaseIn false true false (f .phase)) → open? f ≡ r
+  unfolding open?
+  is-open e = sym e
+
+  pub is-begun : r ≡ (sound? f && phaseIn false true true (f .phase)) → begun? f ≡ r
+  unfolding begun?
+  is-begun e = sym e
+
+  pub is-ready : r ≡ (sound? f && phaseIn true false true (f .phase)) → ready? f ≡ r
+  unfolding ready?
+  is-ready e = sym e
 
 -- its jobs have room, and the job on the panel has a place
 pub open-fits : (f : Frame) → open? f ≡ true → f .count ≤ 32

@@ -1,12 +1,9 @@
 pub mod Laws
 pub mod Passed
 pub mod Filled
-pub mod Refused
-pub mod Sound
 pub mod Marks
-pub mod Reached
-pub mod Safe
-pub mod Numbers
-pub mod Apart
+pub mod Sound
+pub mod Cases
 pub mod Says
-pub mod Promises
+pub mod Refused
+pub mod Reached

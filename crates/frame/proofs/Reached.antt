@@ -1,173 +1,127 @@
--- "every record reached by calls from idle is sound": each call keeps a record sound, and a begin, with any bytes, makes one.
--- Assumes nothing.
+-- "every record reached by calls from idle is sound": a record in which one job has moved on, a closed one and a begun one are as listed, and
+-- so each call keeps a record sound. Assumes nothing.
 use Prim.Native.Nat.{ℕ, _+_, _≤_, _<_}
 use native.Mathlib.Omega.{arith}
 use mathlib.Core.Path.{_≡_, refl, sym, _∙_, ap, subst}
-use mathlib.Core.Bool.{Bool, true, false}
+use mathlib.Core.Bool.{Bool, true, false, cond}
 use mathlib.Core.List.{List, [], _∷_}
-use borrow.Author.Tests.{ltb-true, ltb-false, eqb-true, eqb-false, le-ltb, lt-ltb, eq-eqb}
+use borrow.Author.Tests.{ltb-true, ltb-false, eqb-true, eqb-false}
 use lib.ListN.{length, getD, set, length-set, length-replicate}
 use lib.Seq.{getD-set-same, getD-set-other}
 use lib.Dec.{leb, ltb, eqb}
 use lib.Ieee.{Float}
 use Rattle.model.specs.declared.Job.{Job}
 use Rattle.model.specs.Positions.{noJob}
-use Rattle.table.specs.Refusals as outcome
-use Rattle.table.specs.Refusals.{Outcome, accepted}
-use Rattle.table.specs.Tables.{JobTable, readTable}
-use Rattle.table.proofs.Accepted.{accepted-good}
+use Rattle.table.specs.Tables.{JobTable}
 use Rattle.plan.specs.declared.Step as plan
-use Rattle.plan.specs.Plans.{noStep, readPlan}
-use Rattle.judge.specs.declared.Checked.{Checked}
-use Rattle.judge.specs.declared.Checked.the-variants.{Passes, Fails}
-use Rattle.judge.specs.Check.{afterPlan}
+use Rattle.plan.specs.Plans.{noStep}
 use Rattle.frame.specs.Finite.{finite?}
-use Rattle.frame.specs.Sound.{pick, none, entryAt, placeAt, entryId, first, okStanding, okEntry, sound?, open?, ready?}
-use Rattle.frame.specs.Step.{idle, judge, standing, moved, whereIs, panelPlace, panelEntry, onPanel, spanAt, spanStep, backAt, backTo, backStep, closed, closeStep, eventStep}
-use Rattle.frame.specs.Begin.{stepsIn, entryOf, entriesOf, position, stepPlace, orderOf, opened, begun, mayOpen, beginChecked, beginRead, beginStep}
-use Rattle.frame.specs.Run.{Call, begin, event, stepOf, State, turn, after, start, reached}
+use Rattle.frame.specs.Sound.{none, entryAt, placeAt, entryId, first, sound?, open?}
+use Rattle.frame.specs.Listed.{MayStand, planEntry, Begun, SoundIn}
+use Rattle.frame.specs.Step.{idle, judge, standing, moved, panelPlace, panelEntry, closed}
+use Rattle.frame.specs.Begin.{entryOf, entriesOf, position, stepPlace, orderOf, opened, begun}
+use Rattle.frame.specs.Run.{Call, stepOf, after, reached}
 use Rattle.frame.specs.declared.Phase.{Phase}
 use Rattle.frame.specs.declared.Standing.{Standing}
 use Rattle.frame.specs.declared.Standing.the-variants.{Waiting, Out, Held, Late}
 use Rattle.frame.specs.declared.Entry.{Entry}
 use Rattle.frame.specs.declared.Frame.{Frame}
-use Rattle.frame.specs.declared.Found.{Found}
-use Rattle.frame.specs.declared.Found.the-variants.{At, Nothing}
-use Rattle.frame.specs.declared.Event.{Event}
-use Rattle.frame.specs.declared.Event.the-variants as E
+use Rattle.frame.specs.declared.Found.the-variants.{At}
 use Rattle.frame.specs.declared.Step.{Step}
-use Rattle.frame.proofs.Laws.{false-true, and-left, and-both, either, first-below, first-has, first-some}
-use Rattle.frame.proofs.Passed.{Passed, JobFor, passed}
+use Rattle.frame.proofs.Laws.{first-below, first-has, first-some}
+use Rattle.frame.proofs.Passed.{Passed, JobFor}
 use Rattle.frame.proofs.Filled.{filled-at, filled-length}
-use Rattle.frame.proofs.Sound.{Begun, SoundIn, sound-made, open-phase, open-parts}
+use Rattle.frame.proofs.Sound.{sound-made, open-phase, open-parts}
+use Rattle.frame.proofs.Cases.{every-call}
 
--- a sound record, with the room of its array
-pub record Fine (f : Frame) : Type 0 where
-  pub sound : sound? f ≡ true
-  pub sized : length (f .entries) ≡ 32
+-- ---- one job moves on
 
-abbrev pub FineAfter : Step → Type 0
-FineAfter s = Fine (s .frame)
+-- a value that is a number, at a job that the plan has passed
+judge-stands : (n k next : ℕ) (away : Bool) (v : Float) → finite? v ≡ true → k < next → (b : Bool) →
+    MayStand n k next away (cond b (Held (record { value = v; frame = n })) Late)
+judge-stands n k next away v num h true = (h, refl, num)
+judge-stands n k next away v num h false = h
 
--- ---- a job's new standing
+-- one span more leaves the other jobs on the same side
+others-stand : (n k next : ℕ) → (k ≡ next → ⊥) → (away : Bool) (s : Standing) → MayStand n k next away s → MayStand n k (next + 1) away s
+others-stand n k next other away Waiting h = omega (arith, other)
+others-stand n k next other away Out h = (omega (arith, h .0), h .1)
+others-stand n k next other away (Held x) h = (omega (arith, h .0), h .1, h .2)
+others-stand n k next other away Late h = omega arith
 
--- a value that is a number, at a job that the panel is past
-judge-ok :
-    (n : ℕ) (v : Float) → finite? v ≡ true → (passed away : Bool) → passed ≡ true → (b : Bool) →
-    okStanding n passed away (pick b (Held (record { value = v; frame = n })) Standing.Late) ≡ true
-judge-ok n v num true away p true = rw (eq-eqb n n refl, num)
-judge-ok n v num true away p false = refl
-judge-ok n v num false away p b = absurd (false-true p)
+out-passed : (n k next : ℕ) (away : Bool) (s : Standing) → s ≡ Out → MayStand n k next away s → k < next
+out-passed n k next away s is h = (subst (MayStand n k next away) is h) .0
 
--- past the job on the panel, one place on
-one-on : (k next : ℕ) → (k ≡ next → ⊥) → (b c : Bool) → ltb k (next + 1) ≡ b → ltb k next ≡ c → b ≡ c
-one-on k next other true true p q = refl
-one-on k next other false false p q = refl
-one-on k next other true false p q = absurd (omega (arith, ltb-true k (next + 1) p, ltb-false k next q))
-one-on k next other false true p q = absurd (omega (arith, ltb-false k (next + 1) p, ltb-true k next q))
-
-out-passed : (number : ℕ) (passed away : Bool) (s : Standing) → s ≡ Out → okStanding number passed away s ≡ true → passed ≡ true
-out-passed number true away s is e = refl
-out-passed number false away s is e = absurd (false-true (rw is at e))
-
-module _ (f : Frame) (fine : Fine f) (o : open? f ≡ true) where
-  -- two places of the plan that have one table position are one
-  same-place : (i k : ℕ) → i < f .count → k < f .count → placeAt (f .order) i ≡ placeAt (f .order) k → i ≡ k
+module _ (f : Frame) (b : Begun f) where
+  -- two jobs of the plan that have one place in the table are one
+  pub same-place : (i k : ℕ) → i < f .count → k < f .count → placeAt (f .order) i ≡ placeAt (f .order) k → i ≡ k
   same-place i k p q e = step (ltb i k) refl (ltb k i) refl
     where
-      step : (b : Bool) → ltb i k ≡ b → (c : Bool) → ltb k i ≡ c → i ≡ k
-      step true x c y = absurd (open-parts f o .places-differ i k (ltb-true i k x) q e)
-      step false x true y = absurd (open-parts f o .places-differ k i (ltb-true k i y) p (sym e))
-      step false x false y = omega (arith, ltb-false i k x, ltb-false k i y)
+      step : (x : Bool) → ltb i k ≡ x → (y : Bool) → ltb k i ≡ y → i ≡ k
+      step true x y z = absurd (b .places-differ i k (ltb-true i k x) q e)
+      step false x true z = absurd (b .places-differ k i (ltb-true k i z) p (sym e))
+      step false x false z = omega (arith, ltb-false i k x, ltb-false k i z)
 
-  module _ (at t next : ℕ) (s : Standing) (inside : at < f .count) where
+  module _ (sized : length (f .entries) ≡ 32) (at t next : ℕ) (s : Standing) (inside : at < f .count) where
     abbrev new : List Entry
     new = set (f .entries) at (standing (entryAt (f .entries) at) s)
 
-    within : at < length (f .entries)
-    within = omega (arith, fine .sized, open-parts f o .room)
+    pub moved-here : entryAt new at ≡ standing (entryAt (f .entries) at) s
+    moved-here = getD-set-same (f .entries) at (standing (entryAt (f .entries) at) s) none (omega (arith, b .room))
 
-    here : entryAt new at ≡ standing (entryAt (f .entries) at) s
-    here = getD-set-same (f .entries) at (standing (entryAt (f .entries) at) s) none within
+    pub moved-other : (i : ℕ) → (i ≡ at → ⊥) → entryAt new i ≡ entryAt (f .entries) i
+    moved-other i h = getD-set-other (f .entries) at i (standing (entryAt (f .entries) at) s) none h
 
-    other : (i : ℕ) → (i ≡ at → ⊥) → entryAt new i ≡ entryAt (f .entries) i
-    other i h = getD-set-other (f .entries) at i (standing (entryAt (f .entries) at) s) none h
+    -- a move leaves ids and choices
+    moved-part :
+        {A : Type 0} (p : Entry → A) → ((e : Entry) → p (standing e s) ≡ p e) →
+        (i : ℕ) (w : Bool) → eqb i at ≡ w → p (entryAt new i) ≡ p (entryAt (f .entries) i)
+    moved-part p stays i true is = rw (eqb-true i at is, moved-here) (stays (entryAt (f .entries) at))
+    moved-part p stays i false is = ap p (moved-other i (eqb-false i at is))
 
-    same-id : (i : ℕ) (b : Bool) → eqb i at ≡ b → entryAt new i .id ≡ entryAt (f .entries) i .id
-    same-id i true is = rw (eqb-true i at is) (ap entryId here)
-    same-id i false is = ap entryId (other i (eqb-false i at is))
+    pub moved-id : (i : ℕ) → entryAt new i .id ≡ entryAt (f .entries) i .id
+    moved-id i = moved-part entryId (λ e. refl) i (eqb i at) refl
 
-    moved-fine :
-        next ≤ f .count →
-        ((k : ℕ) → k < f .count → placeAt (f .order) k ≡ at → okStanding (f .number) (ltb k next) (entryAt (f .entries) at .away) s ≡ true) →
-        ((k : ℕ) → k < f .count → (placeAt (f .order) k ≡ at → ⊥) → ltb k next ≡ ltb k (f .next)) →
-        Fine (moved f at t next s)
-    moved-fine up ok same = record {
-      sound = sound-made (moved f at t next s) (subst (λ (p : Phase). SoundIn p (moved f at t next s)) (sym (open-phase f o)) (record {
-        room = open-parts f o .room;
+    pub moved-away : (i : ℕ) → entryAt new i .away ≡ entryAt (f .entries) i .away
+    moved-away i = moved-part (λ (e : Entry). e .away) (λ e. refl) i (eqb i at) refl
+
+    module _
+        (up : next ≤ f .count)
+        (mine : (k : ℕ) → k < f .count → placeAt (f .order) k ≡ at → MayStand (f .number) k next (entryAt (f .entries) at .away) s)
+        (others :
+        (k : ℕ) → k < f .count → (placeAt (f .order) k ≡ at → ⊥) →
+        (away : Bool) (x : Standing) → MayStand (f .number) k (f .next) away x → MayStand (f .number) k next away x) where
+      stands-after :
+          (k : ℕ) → k < f .count → (w : Bool) → eqb (placeAt (f .order) k) at ≡ w →
+          MayStand (f .number) k next (entryAt new (placeAt (f .order) k) .away) (entryAt new (placeAt (f .order) k) .standing)
+      stands-after k h true is = let e = eqb-true (placeAt (f .order) k) at is in rw (e, moved-here) (mine k h e)
+      stands-after k h false is =
+          let other = eqb-false (placeAt (f .order) k) at is in
+          rw (moved-other (placeAt (f .order) k) other) (others k h other (planEntry f k .away) (planEntry f k .standing) (b .stands k h))
+
+      pub moved-sound : Begun (moved f at t next s)
+      moved-sound = record {
+        room = b .room;
         reached = up;
-        low = open-parts f o .low;
-        high = open-parts f o .high;
-        places = open-parts f o .places;
-        places-differ = open-parts f o .places-differ;
-        ids-differ = λ i k h b e. open-parts f o .ids-differ i k h b (sym (same-id i (eqb i at) refl) ∙ e ∙ same-id k (eqb k at) refl);
+        low = b .low;
+        high = b .high;
+        places = b .places;
+        places-differ = b .places-differ;
+        ids-differ = λ i k h q e. b .ids-differ i k h q (sym (moved-id i) ∙ e ∙ moved-id k);
         stands = λ k h. stands-after k h (eqb (placeAt (f .order) k) at) refl;
-      }));
-      sized = length-set (f .entries) at (standing (entryAt (f .entries) at) s) ∙ fine .sized;
-    }
-      where
-        stands-after : (k : ℕ) → k < f .count → (b : Bool) → eqb (placeAt (f .order) k) at ≡ b → okEntry (f .number) (ltb k next) (entryAt new (placeAt (f .order) k)) ≡ true
-        stands-after k h true is = rw (eqb-true (placeAt (f .order) k) at is, here) (ok k h (eqb-true (placeAt (f .order) k) at is))
-        stands-after k h false is = rw (other (placeAt (f .order) k) (eqb-false (placeAt (f .order) k) at is), same k h (eqb-false (placeAt (f .order) k) at is)) (open-parts f o .stands k h)
-
-  -- the job on the panel is past
-  past : f .next < f .count → (k : ℕ) → k < f .count → placeAt (f .order) k ≡ panelPlace f → ltb k (f .next + 1) ≡ true
-  past h k q e = lt-ltb k (f .next + 1) (omega (arith, same-place k (f .next) q h e))
-
-  span-moves :
-      (t : ℕ) (s : Standing) → f .next < f .count →
-      ((passed : Bool) → passed ≡ true → okStanding (f .number) passed (panelEntry f .away) s ≡ true) →
-      Fine (moved f (panelPlace f) t (f .next + 1) s)
-  span-moves t s h ok =
-      moved-fine (panelPlace f) t (f .next + 1) s (open-parts f o .places (f .next) h) (omega arith)
-      (λ k q e. ok (ltb k (f .next + 1)) (past h k q e))
-      (λ k q e. one-on k (f .next) (λ is. e (ap (placeAt (f .order)) is)) _ _ refl refl)
-
-  span-at-fine : (t : ℕ) (v : Float) → f .next < f .count → (away : Bool) → panelEntry f .away ≡ away → FineAfter (spanAt f t v away)
-  span-at-fine t v h true is = span-moves t Out h (λ passed p. and-both passed _ p is)
-  span-at-fine t v h false is =
-      either FineAfter (finite? v) _ _
-      (λ num. span-moves t (judge v (f .number) t (f .deadline)) h (λ passed p. judge-ok (f .number) v num passed (panelEntry f .away) p (leb t (f .deadline))))
-      (λ _. fine)
-
-  back-at-fine : (i t : ℕ) (v : Float) → i < f .count → (s : Standing) → entryAt (f .entries) i .standing ≡ s → FineAfter (backAt f i t v s)
-  back-at-fine i t v h Waiting is = fine
-  back-at-fine i t v h Out is =
-      either FineAfter (finite? v) _ _
-      (λ num. moved-fine i t (f .next) (judge v (f .number) t (f .deadline)) h (open-parts f o .reached)
-      (λ k q e. judge-ok (f .number) v num (ltb k (f .next)) (entryAt (f .entries) i .away) (was-out k q e) (leb t (f .deadline)))
-      (λ k q e. refl))
-      (λ _. fine)
-    where
-      was-out : (k : ℕ) → k < f .count → placeAt (f .order) k ≡ i → ltb k (f .next) ≡ true
-      was-out k q e =
-          out-passed (f .number) (ltb k (f .next)) (entryAt (f .entries) (placeAt (f .order) k) .away) (entryAt (f .entries) (placeAt (f .order) k) .standing)
-          (rw e is) (open-parts f o .stands k q)
-  back-at-fine i t v h (Held x) is = fine
-  back-at-fine i t v h Late is = fine
-
-  back-to-fine : (id t : ℕ) (v : Float) (w : Found) → whereIs f id ≡ w → FineAfter (backTo f t v w)
-  unfolding whereIs
-  back-to-fine id t v (At i) e = back-at-fine i t v (omega (arith, first-below entryId none (f .entries) id 0 (f .count) i e)) (entryAt (f .entries) i .standing) refl
-  back-to-fine id t v Nothing e = fine
-
-  closed-fine : (t : ℕ) → Fine (closed f t)
-  closed-fine t =
-      let p : Begun f = open-parts f o in
-      record {
-        sound = sound-made (closed f t) (record { room = p .room; reached = p .reached; low = p .low; high = p .high; places = p .places; places-differ = p .places-differ; ids-differ = p .ids-differ; stands = p .stands });
-        sized = fine .sized;
       }
+
+  pub closed-sound : (t : ℕ) → Begun (closed f t)
+  closed-sound t = record {
+    room = b .room;
+    reached = b .reached;
+    low = b .low;
+    high = b .high;
+    places = b .places;
+    places-differ = b .places-differ;
+    ids-differ = b .ids-differ;
+    stands = b .stands;
+  }
 
 -- ---- a frame that opens
 
@@ -195,8 +149,10 @@ module _ (n : ℕ) (t : JobTable) (xs : List plan.Step) (p : Passed t xs) where
   -- the k-th step's job is found where the order says
   found-at : (k : ℕ) → k < count → first entryId none es ((getD xs k noStep) .id) 0 count ≡ At (placeAt order k)
   found-at k h =
-      let j : JobFor js ((getD xs k noStep) .id) = p .named k (omega (arith, p .enough)) in
-      let m = first-some entryId none es ((getD xs k noStep) .id) 0 count (j .at) (omega arith) (omega (arith, j .inside)) (ap entryId (entry-at (j .at) (j .inside)) ∙ j .same-id) in
+      let id = (getD xs k noStep) .id in
+      let j : JobFor js id = p .named k (omega (arith, p .enough)) in
+      let named : entryAt es (j .at) .id ≡ id = ap entryId (entry-at (j .at) (j .inside)) ∙ j .same-id in
+      let m = first-some entryId none es id 0 count (j .at) (omega arith) (omega (arith, j .inside)) named in
       m .1 ∙ ap At (sym (order-at k h ∙ ap position (m .1)))
 
   pub place-inside : (k : ℕ) → k < count → placeAt order k < count
@@ -205,85 +161,97 @@ module _ (n : ℕ) (t : JobTable) (xs : List plan.Step) (p : Passed t xs) where
   pub has-id : (k : ℕ) → k < count → entryAt es (placeAt order k) .id ≡ (getD xs k noStep) .id
   has-id k h = first-has entryId none es ((getD xs k noStep) .id) 0 count (placeAt order k) (found-at k h)
 
-  sized-es : length es ≡ 32
-  unfolding entriesOf
-  sized-es = filled-length none (λ (k : ℕ). entryOf xs count (getD js k noJob)) count
+  same-step : (i k : ℕ) → i < k → k < count → placeAt order i ≡ placeAt order k → (getD xs i noStep) .id ≡ (getD xs k noStep) .id
+  same-step i k h q e = sym (has-id i (omega arith)) ∙ ap (λ (m : ℕ). entryAt es m .id) e ∙ has-id k q
 
-  begun-fine : Fine (begun n t xs)
+  same-job : (i k : ℕ) → i < k → k < count → entryAt es i .id ≡ entryAt es k .id → (getD js i noJob) .id ≡ (getD js k noJob) .id
+  same-job i k h q e = sym (ap entryId (entry-at i (omega arith))) ∙ e ∙ ap entryId (entry-at k q)
+
+  pub begun-sound : Begun (begun n t xs)
   unfolding begun
-  begun-fine = record {
-    sound = sound-made (opened n (t .deadline) count order es) (record {
-      room = p .good .few;
-      reached = omega arith;
-      low = p .good .low;
-      high = p .good .high;
-      places = place-inside;
-      places-differ = λ i k h b e. p .steps-differ i k h (omega (arith, p .enough)) (sym (has-id i (omega arith)) ∙ ap (λ (q : ℕ). entryAt es q .id) e ∙ has-id k b);
-      ids-differ = λ i k h b e. p .jobs-differ i k h b (sym (ap entryId (entry-at i (omega arith))) ∙ e ∙ ap entryId (entry-at k b));
-      stands = λ k h. rw (le-ltb k 0 (omega arith), entry-at (placeAt order k) (place-inside k h));
-    });
-    sized = sized-es;
+  begun-sound = record {
+    room = p .good .few;
+    reached = omega arith;
+    low = p .good .low;
+    high = p .good .high;
+    places = place-inside;
+    places-differ = λ i k h q e. p .steps-differ i k h (omega (arith, p .enough)) (same-step i k h q e);
+    ids-differ = λ i k h q e. p .jobs-differ i k h q (same-job i k h q e);
+    stands = λ k h. rw (entry-at (placeAt order k) (place-inside k h)) (omega arith);
   }
+
+  begun-test : sound? (begun n t xs) ≡ true
+  unfolding begun
+  begun-test = sound-made (begun n t xs) begun-sound
+
+  begun-sized : length ((begun n t xs) .entries) ≡ 32
+  unfolding begun entriesOf
+  begun-sized = filled-length none (λ (k : ℕ). entryOf xs count (getD js k noJob)) count
 
 -- ---- each call
 
+-- a sound record, with the room of its array
+pub record Fine (f : Frame) : Type 0 where
+  pub sound : sound? f ≡ true
+  pub sized : length (f .entries) ≡ 32
+
+abbrev FineAfter : Step → Type 0
+FineAfter s = Fine (s .frame)
+
 module _ (f : Frame) (fine : Fine f) where
-  close-fine : (t : ℕ) → FineAfter (closeStep f t)
-  unfolding closeStep
-  close-fine t =
-      either FineAfter (open? f) _ _
-      (λ o. either FineAfter (ltb t (f .clock)) _ _ (λ _. fine)
-      (λ _. either FineAfter (ltb t (f .deadline)) _ _ (λ _. fine) (λ _. closed-fine f fine o t)))
-      (λ _. fine)
+  module _ (o : open? f ≡ true) where
+    abbrev b : Begun f
+    b = open-parts f o
 
-  span-fine : (id t : ℕ) (v : Float) → FineAfter (spanStep f id t v)
-  unfolding spanStep
-  span-fine id t v =
-      either FineAfter (open? f) _ _
-      (λ o. either FineAfter (ltb t (f .clock)) _ _ (λ _. fine)
-      (λ _. either FineAfter (onPanel f id) _ _ (λ on. span-at-fine f fine o t v (ltb-true _ _ (and-left _ _ on)) (panelEntry f .away) refl) (λ _. fine)))
-      (λ _. fine)
+    moved-fine : (at t next : ℕ) (s : Standing) → Begun (moved f at t next s) → Fine (moved f at t next s)
+    moved-fine at t next s g = record {
+      sound = sound-made (moved f at t next s) (subst (λ (p : Phase). SoundIn p (moved f at t next s)) (sym (open-phase f o)) g);
+      sized = length-set (f .entries) at (standing (entryAt (f .entries) at) s) ∙ fine .sized;
+    }
 
-  back-fine : (n id t : ℕ) (v : Float) → FineAfter (backStep f n id t v)
-  unfolding backStep
-  back-fine n id t v =
-      either FineAfter (open? f) _ _
-      (λ o. either FineAfter (eqb n (f .number)) _ _
-      (λ _. either FineAfter (ltb t (f .clock)) _ _ (λ _. fine) (λ _. back-to-fine f fine o id t v (whereIs f id) refl))
-      (λ _. fine))
-      (λ _. fine)
+    span-fine :
+        (t : ℕ) (s : Standing) → f .next < f .count →
+        ((k : ℕ) → k < f .next + 1 → MayStand (f .number) k (f .next + 1) (panelEntry f .away) s) →
+        Fine (moved f (panelPlace f) t (f .next + 1) s)
+    span-fine t s h ok =
+        moved-fine (panelPlace f) t (f .next + 1) s
+        (moved-sound f b (fine .sized) (panelPlace f) t (f .next + 1) s (b .places (f .next) h) (omega arith)
+        (λ k q e. ok k (omega (arith, same-place f b k (f .next) q h e)))
+        (λ k q e. others-stand (f .number) k (f .next) (λ is. e (ap (placeAt (f .order)) is))))
 
-  module _ (n : ℕ) (s : List ℕ) (t : JobTable) where
-    checked-fine : (k : Checked) → ((last busy : ℕ) → k ≡ Passes last busy → Fine (begun n t (stepsIn (readPlan s)))) → FineAfter (beginChecked f n (begun n t (stepsIn (readPlan s))) k)
-    checked-fine (Passes last busy) p = either FineAfter (mayOpen f n) _ _ (λ _. p last busy refl) (λ _. fine)
-    checked-fine (Fails r) p = fine
-
-  read-fine : (n : ℕ) (table s : List ℕ) (o : Outcome JobTable) → readTable table ≡ o → FineAfter (beginRead f n s o)
-  read-fine n table s (accepted t) e =
-      checked-fine n s t (afterPlan t (readPlan s))
-      (λ last busy ok. begun-fine n t (stepsIn (readPlan s)) (passed t (accepted-good table t e) s last busy ok))
-  read-fine n table s (outcome.refused r) e = fine
-
-  begin-fine : (table s : List ℕ) (n : ℕ) → FineAfter (beginStep f table s n)
-  unfolding beginStep
-  begin-fine table s n = either FineAfter (ready? f) _ _ (λ _. read-fine n table s (readTable table) refl) (λ _. fine)
-
-  event-fine : (e : Event) → FineAfter (eventStep f e)
-  event-fine E.Next = fine
-  event-fine (E.SpanEnd id t v) = span-fine id t v
-  event-fine (E.Return n id t v) = back-fine n id t v
-  event-fine (E.Close t) = close-fine t
-  event-fine (E.Read id) = fine
+    back-fine :
+        (i : ℕ) → i < f .count → entryAt (f .entries) i .standing ≡ Out → (t : ℕ) (v : Float) → finite? v ≡ true →
+        Fine (moved f i t (f .next) (judge v (f .number) t (f .deadline)))
+    back-fine i h out t v num =
+        moved-fine i t (f .next) (judge v (f .number) t (f .deadline))
+        (moved-sound f b (fine .sized) i t (f .next) (judge v (f .number) t (f .deadline)) h (b .reached)
+        (λ k q e. judge-stands (f .number) k (f .next) (entryAt (f .entries) i .away) v num (was-out k q e) (leb t (f .deadline)))
+        (λ k q e away x w. w))
+      where
+        was-out : (k : ℕ) → k < f .count → placeAt (f .order) k ≡ i → k < f .next
+        was-out k q e = out-passed (f .number) k (f .next) (planEntry f k .away) (planEntry f k .standing) (rw e out) (b .stands k q)
 
   pub call-fine : (c : Call) → FineAfter (stepOf c f)
-  call-fine (begin table s n) = begin-fine table s n
-  call-fine (event e) = event-fine e
+  call-fine = every-call f FineAfter (record {
+    refuses = λ r. fine;
+    asks = λ a. fine;
+    goes-out = λ o h away t. span-fine o t Out h (λ k q. (q, away));
+    has-value = λ o h t v num.
+        span-fine o t (judge v (f .number) t (f .deadline)) h
+        (λ k q. judge-stands (f .number) k (f .next + 1) (panelEntry f .away) v num q (leb t (f .deadline)));
+    comes-back = back-fine;
+    closes = λ o t. record { sound = sound-made (closed f t) (closed-sound f (open-parts f o) t); sized = fine .sized };
+    begins = λ n t xs p. record { sound = begun-test n t xs p; sized = begun-sized n t xs p };
+  })
 
-after-fine : (cs : List Call) (s : State) → Fine (s .frame) → Fine ((after s cs) .frame)
+after-fine : (cs : List Call) (f : Frame) → Fine f → Fine (after f cs)
 unfolding after
-after-fine [] s fine = fine
-after-fine (c ∷ cs) s fine = after-fine cs (turn s c) (call-fine (s .frame) fine c)
+after-fine [] f fine = fine
+after-fine (c ∷ cs) f fine = after-fine cs ((stepOf c f) .frame) (call-fine f fine c)
+
+pub idle-fine : Fine idle
+idle-fine = record { sound = sound-made idle tt; sized = length-replicate 32 none }
 
 -- every record reached by calls from idle is sound
 pub reached-sound : (cs : List Call) → sound? (reached cs) ≡ true
-reached-sound cs = after-fine cs start (record { sound = sound-made idle tt; sized = length-replicate 32 none }) .sound
+reached-sound cs = after-fine cs idle idle-fine .sound

@@ -2,13 +2,12 @@
 use Prim.Native.Nat.{ℕ}
 use native.Mathlib.Omega.{arith}
 use mathlib.Core.Path.{_≡_, refl, sym, ap}
-use mathlib.Core.Bool.{Bool, true, false}
+use mathlib.Core.Bool.{Bool, true, false, cond}
 use mathlib.Core.List.{List, [], _∷_}
 use lib.ListN.{getD}
 use Rattle.model.proofs.Lists.{clash}
 use Rattle.table.specs.declared.refusal.Refusal.{Refusal}
 use Rattle.table.proofs.Refusals.{says-injective, says-numbered}
-use Rattle.frame.specs.Sound.{pick}
 use Rattle.frame.specs.Step.{Said, readingSays, answerSays}
 use Rattle.frame.specs.declared.Sample.{Sample}
 use Rattle.frame.specs.declared.Reading.{Reading}
@@ -30,13 +29,13 @@ not-refused : {P : Type 0} (a : Answer) → getD (answerSays a .numbers) 0 0 ≡
 not-refused a z r e = absurd (omega (arith, z, says-numbered r, ap (λ (s : Said). getD (s .numbers) 0 0) e))
 
 -- the second number tells the readings apart, and from the panel's answers by how many numbers there are
-same-away : (a b : Bool) → _≡_ {A = ℕ} (pick a 1 0) (pick b 1 0) → a ≡ b
+same-away : (a b : Bool) → _≡_ {A = ℕ} (cond a 1 0) (cond b 1 0) → a ≡ b
 same-away true true e = refl
 same-away true false e = clash (sym e)
 same-away false true e = clash e
 same-away false false e = refl
 
-panel-same : (i k : ℕ) (a b : Bool) → 0 ∷ 1 ∷ i ∷ pick a 1 0 ∷ [] ≡ 0 ∷ 1 ∷ k ∷ pick b 1 0 ∷ [] → Panel i a ≡ Panel k b
+panel-same : (i k : ℕ) (a b : Bool) → 0 ∷ 1 ∷ i ∷ cond a 1 0 ∷ [] ≡ 0 ∷ 1 ∷ k ∷ cond b 1 0 ∷ [] → Panel i a ≡ Panel k b
 panel-same i k a b e =
     let id : i ≡ k = cc in
     let away : a ≡ b = same-away a b (cc) in
@@ -95,7 +94,7 @@ told-same Done (Refused r) e n = not-refused Done refl r e
 told-same (Panel i a) Done e n = clash (cc)
 told-same (Panel i a) (Panel k b) e n = panel-same i k a b n
 told-same (Panel i a) Rest e n = clash (cc)
-told-same (Panel i a) (Read q) e n = not-panel q i (pick a 1 0) (sym n)
+told-same (Panel i a) (Read q) e n = not-panel q i (cond a 1 0) (sym n)
 told-same (Panel i a) (Refused r) e n = not-refused (Panel i a) refl r e
 told-same Rest Done e n = clash (cc)
 told-same Rest (Panel k b) e n = clash (cc)
@@ -103,7 +102,7 @@ told-same Rest Rest e n = refl
 told-same Rest (Read q) e n = not-rest q (sym n)
 told-same Rest (Refused r) e n = not-refused Rest refl r e
 told-same (Read r) Done e n = not-done r n
-told-same (Read r) (Panel k b) e n = not-panel r k (pick b 1 0) n
+told-same (Read r) (Panel k b) e n = not-panel r k (cond b 1 0) n
 told-same (Read r) Rest e n = not-rest r n
 told-same (Read r) (Read q) e n = ap Read (reading-says-injective r q e)
 told-same (Read r) (Refused q) e n = not-refused (Read r) (zero-read r) q e

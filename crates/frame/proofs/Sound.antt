@@ -1,31 +1,25 @@
--- What the test of a record says, in words of numbers: the list of docs/ that makes a begun record sound. Assumes nothing.
+-- The test that every call makes first is the list of specs/Listed.antt: `sound-iff`. Assumes nothing.
 use Prim.Native.Nat.{ℕ, zero, suc, _+_, _≤_, _<_}
 use native.Mathlib.Omega.{arith}
 use mathlib.Core.Path.{_≡_, refl, ap}
-use mathlib.Core.Bool.{Bool, true, _&&_}
+use mathlib.Core.Bool.{Bool, true, not, _&&_}
+use mathlib.Core.Logic.{_↔_}
 use mathlib.Core.List.{List}
-use borrow.Author.Tests.{leb-true, eqb-true, le-leb, lt-ltb, eq-eqb}
+use borrow.Author.Tests.{leb-true, ltb-true, ltb-false, eqb-true, le-leb, lt-ltb, le-ltb, eq-eqb, not-true}
 use lib.ListN.{getD}
-use lib.Dec.{leb, ltb}
-use Rattle.table.specs.Limits.{mostJobs, largestTime}
-use Rattle.frame.specs.Sound.{none, entryAt, placeAt, entryId, itself, first, isAt, okId, okEntry, okOrder, okAt, okFrom, okCounts, okDeadline, okBegun, okIn, isOpen, sound?, open?}
+use lib.Dec.{leb, ltb, eqb}
+use Rattle.table.specs.Limits.{mostJobs}
+use Rattle.frame.specs.Sound.{none, entryAt, placeAt, entryId, itself, first, isAt, okId, okStanding, okEntry, okOrder, okAt, okFrom, okCounts}
+use Rattle.frame.specs.Sound.{okDeadline, okBegun, okIn, isOpen, sound?, open?}
+use Rattle.frame.specs.Listed.{MayStand, planEntry, Begun, SoundIn, SoundFrame}
 use Rattle.frame.specs.declared.Phase.{Phase}
 use Rattle.frame.specs.declared.Phase.the-variants.{Idle, Open, Closed}
+use Rattle.frame.specs.declared.Standing.{Standing}
+use Rattle.frame.specs.declared.Standing.the-variants.{Waiting, Out, Held, Late}
 use Rattle.frame.specs.declared.Frame.{Frame}
 use Rattle.frame.specs.declared.Found.{Found}
 use Rattle.frame.specs.declared.Found.the-variants.{At, Nothing}
 use Rattle.frame.proofs.Laws.{false-true, and-left, and-right, and-both, at-each, order-below, open-begun, first-least, first-found}
-
--- counts and deadline in range; the plan's order a permutation of the table's places; ids that differ; each job where it may stand
-pub record Begun (f : Frame) : Type 0 where
-  pub room : f .count ≤ mostJobs
-  pub reached : f .next ≤ f .count
-  pub low : 1 ≤ f .deadline
-  pub high : f .deadline ≤ largestTime
-  pub places : (k : ℕ) → k < f .count → placeAt (f .order) k < f .count
-  pub places-differ : (i k : ℕ) → i < k → k < f .count → placeAt (f .order) i ≡ placeAt (f .order) k → ⊥
-  pub ids-differ : (i k : ℕ) → i < k → k < f .count → entryAt (f .entries) i .id ≡ entryAt (f .entries) k .id → ⊥
-  pub stands : (k : ℕ) → k < f .count → okEntry (f .number) (ltb k (f .next)) (entryAt (f .entries) (placeAt (f .order) k)) ≡ true
 
 -- ---- no position before has the key
 
@@ -42,6 +36,26 @@ module _ {A : Type 0} (key : A → ℕ) (d : A) (xs : List A) (n k : ℕ) where
 
   pub own-made : k < n → ((i : ℕ) → i < k → key (getD xs i d) ≡ key (getD xs k d) → ⊥) → Own ≡ true
   own-made h differ = rw (first-found key d xs (key (getD xs k d)) 0 n k (omega arith) (omega arith) refl (λ i _ q. differ i q)) (eq-eqb k k refl)
+
+-- ---- where a job may stand
+
+not-passed : (k next : ℕ) → not (ltb k next) ≡ true → next ≤ k
+not-passed k next e = omega (arith, ltb-false k next (not-true _ e))
+
+module _ (number k next : ℕ) (away : Bool) where
+  stand-tells : (s : Standing) → okStanding number (ltb k next) away s ≡ true → MayStand number k next away s
+  stand-tells Waiting e = not-passed k next e
+  stand-tells Out e = (ltb-true k next (and-left _ _ e), and-right (ltb k next) _ e)
+  stand-tells (Held x) e =
+      let r = and-right (ltb k next) _ e in
+      (ltb-true k next (and-left _ _ e), eqb-true _ _ (and-left _ _ r), and-right (eqb (x .frame) number) _ r)
+  stand-tells Late e = ltb-true k next e
+
+  stand-made : (s : Standing) → MayStand number k next away s → okStanding number (ltb k next) away s ≡ true
+  stand-made Waiting h = rw (le-ltb k next h)
+  stand-made Out h = and-both _ _ (lt-ltb k next (h .0)) (h .1)
+  stand-made (Held x) h = and-both _ _ (lt-ltb k next (h .0)) (and-both _ _ (eq-eqb _ _ (h .1)) (h .2))
+  stand-made Late h = lt-ltb k next h
 
 -- ---- the test and the list
 
@@ -71,7 +85,7 @@ module _ (f : Frame) where
     unfolding okAt
     order-at k h = and-left _ _ (at-position k h)
 
-    rest-at : (k : ℕ) → k < f .count → (okId (f .entries) (f .count) k && okEntry (f .number) (ltb k (f .next)) (entryAt (f .entries) (placeAt (f .order) k))) ≡ true
+    rest-at : (k : ℕ) → k < f .count → (okId (f .entries) (f .count) k && okEntry (f .number) (ltb k (f .next)) (planEntry f k)) ≡ true
     unfolding okAt
     rest-at k h = and-right (okOrder (f .order) (f .count) k) _ (at-position k h)
 
@@ -84,7 +98,9 @@ module _ (f : Frame) where
       places = λ k h. order-below (f .order) (f .count) k (order-at k h);
       places-differ = λ i k h b. order-own k (order-at k b) i h;
       ids-differ = λ i k h b. id-own k (and-left _ _ (rest-at k b)) i h;
-      stands = λ k h. and-right (okId (f .entries) (f .count) k) _ (rest-at k h);
+      stands = λ k h.
+          stand-tells (f .number) k (f .next) (planEntry f k .away) (planEntry f k .standing)
+          (and-right (okId (f .entries) (f .count) k) _ (rest-at k h));
     }
 
   module _ (b : Begun f) where
@@ -98,7 +114,10 @@ module _ (f : Frame) where
 
     at-made : (k : ℕ) → k < f .count → okAt f k ≡ true
     unfolding okAt
-    at-made k h = and-both _ _ (order-made k h) (and-both _ _ (id-made k h) (b .stands k h))
+    at-made k h =
+        and-both _ _ (order-made k h)
+        (and-both _ _ (id-made k h)
+        (stand-made (f .number) k (f .next) (planEntry f k .away) (planEntry f k .standing) (b .stands k h)))
 
     from-made : (k n : ℕ) → k + n ≤ f .count → okFrom f k n ≡ true
     unfolding okFrom
@@ -111,12 +130,6 @@ module _ (f : Frame) where
         and-both _ _ (and-both _ _ (le-leb _ _ (b .room)) (le-leb _ _ (b .reached)))
         (and-both _ _ (and-both _ _ (le-leb _ _ (b .low)) (le-leb _ _ (b .high))) (from-made 0 (f .count) (omega arith)))
 
--- a record is sound: it is idle, or as listed
-abbrev pub SoundIn : Phase → Frame → Type 0
-SoundIn Idle f = Unit {0}
-SoundIn Open f = Begun f
-SoundIn Closed f = Begun f
-
 tells-in : (p : Phase) (f : Frame) → okIn p f ≡ true → SoundIn p f
 tells-in Idle f e = tt
 tells-in Open f e = parts f e
@@ -127,13 +140,14 @@ made-in Idle f b = refl
 made-in Open f b = made f b
 made-in Closed f b = made f b
 
-pub sound-tells : (f : Frame) → sound? f ≡ true → SoundIn (f .phase) f
-unfolding sound?
-sound-tells f e = tells-in (f .phase) f e
-
-pub sound-made : (f : Frame) → SoundIn (f .phase) f → sound? f ≡ true
+pub sound-made : (f : Frame) → SoundFrame f → sound? f ≡ true
 unfolding sound?
 sound-made f b = made-in (f .phase) f b
+
+-- the promise
+pub sound-iff : (f : Frame) → (sound? f ≡ true) ↔ SoundFrame f
+unfolding sound?
+sound-iff f = (tells-in (f .phase) f, sound-made f)
 
 -- ---- a sound record that is open
 

@@ -1,7 +1,7 @@
 -- Document 01, 'The frame runner': "Begin (table, plan, frame number 0..4,294,967,295): PHASE if open; the check's refusals; NUMBER (never
 -- from idle). Opens with the time at 0 and no values." Assumes nothing.
 use Prim.Native.Nat.{ℕ, zero, suc}
-use mathlib.Core.Bool.{Bool, false, _||_}
+use mathlib.Core.Bool.{Bool, false, cond, _||_}
 use mathlib.Core.List.{List, []}
 use lib.ListN.{length, getD, set, replicate}
 use lib.Dec.{ltb}
@@ -17,7 +17,7 @@ use Rattle.plan.specs.Plans.{stepId, noStep, readPlan}
 use Rattle.judge.specs.declared.Checked.{Checked}
 use Rattle.judge.specs.declared.Checked.the-variants.{Passes, Fails}
 use Rattle.judge.specs.Check.{afterPlan}
-use Rattle.frame.specs.Sound.{pick, none, entryId, first, isIdle, ready?}
+use Rattle.frame.specs.Sound.{none, entryId, first, isIdle, ready?}
 use Rattle.frame.specs.Step.{refused, done}
 use Rattle.frame.specs.declared.Phase.the-variants.{Open}
 use Rattle.frame.specs.declared.Standing.the-variants.{Waiting}
@@ -88,11 +88,11 @@ mayOpen f number = isIdle (f .phase) || ltb (f .number) number
 
 abbrev pub beginChecked : Frame → ℕ → Frame → Checked → Step
 beginChecked f number g (Fails r) = refused r f
-beginChecked f number g (Passes last busy) = pick (mayOpen f number) (done g) (refused R.Number f)
+beginChecked f number g (Passes last busy) = cond (mayOpen f number) (done g) (refused R.Number f)
 
 abbrev pub beginRead : Frame → ℕ → List ℕ → Outcome JobTable → Step
 beginRead f number plan (outcome.refused r) = refused r f
 beginRead f number plan (accepted t) = beginChecked f number (begun number t (stepsIn (readPlan plan))) (afterPlan t (readPlan plan))
 
 unfoldable pub beginStep : Frame → List ℕ → List ℕ → ℕ → Step
-beginStep f table plan number = pick (ready? f) (beginRead f number plan (readTable table)) (refused R.Phase f)
+beginStep f table plan number = cond (ready? f) (beginRead f number plan (readTable table)) (refused R.Phase f)

@@ -1,7 +1,7 @@
 -- Document 01, 'The frame runner': "docs/ lists what makes a frame record sound". The list as a test, which every call makes first.
--- proofs/Sound.antt says the same in words of numbers. Assumes nothing.
+-- specs/Listed.antt has the list in words, and proofs/Sound.antt that the test is that list. Assumes nothing.
 use Prim.Native.Nat.{ℕ, zero, suc, _+_}
-use mathlib.Core.Bool.{Bool, true, false, not, _&&_}
+use mathlib.Core.Bool.{Bool, true, false, cond, not, _&&_}
 use mathlib.Core.List.{List}
 use lib.ListN.{getD}
 use lib.Dec.{leb, ltb, eqb}
@@ -15,10 +15,6 @@ use Rattle.frame.specs.declared.Entry.{Entry}
 use Rattle.frame.specs.declared.Frame.{Frame}
 use Rattle.frame.specs.declared.Found.{Found}
 use Rattle.frame.specs.declared.Found.the-variants.{At, Nothing}
-
-abbrev pub pick : {A : Type 0} → Bool → A → A → A
-pick true a b = a
-pick false a b = b
 
 abbrev pub none : Entry
 none = record { id = 0; away = false; standing = Waiting }
@@ -34,7 +30,7 @@ placeAt order k = getD order k 0
 module _ {A : Type 0} (key : A → ℕ) (d : A) (xs : List A) (x : ℕ) where
   unfoldable pub first : ℕ → ℕ → Found
   first k zero = Nothing
-  first k (suc n) = pick (eqb (key (getD xs k d)) x) (At k) (first (k + 1) n)
+  first k (suc n) = cond (eqb (key (getD xs k d)) x) (At k) (first (k + 1) n)
 
 abbrev pub entryId : Entry → ℕ
 entryId e = e .id
@@ -95,22 +91,24 @@ okIn Closed f = okBegun f
 unfoldable pub sound? : Frame → Bool
 sound? f = okIn (f .phase) f
 
+-- by the phase
+abbrev pub phaseIn : Bool → Bool → Bool → Phase → Bool
+phaseIn idle opened closed Idle = idle
+phaseIn idle opened closed Open = opened
+phaseIn idle opened closed Closed = closed
+
 abbrev pub isOpen : Phase → Bool
-isOpen Idle = false
-isOpen Open = true
-isOpen Closed = false
+isOpen p = phaseIn false true false p
 
 abbrev pub isIdle : Phase → Bool
-isIdle Idle = true
-isIdle Open = false
-isIdle Closed = false
+isIdle p = phaseIn true false false p
 
 -- sound, and open; sound, and begun; sound, and not open
 unfoldable pub open? : Frame → Bool
 open? f = sound? f && isOpen (f .phase)
 
 unfoldable pub begun? : Frame → Bool
-begun? f = sound? f && not (isIdle (f .phase))
+begun? f = sound? f && phaseIn false true true (f .phase)
 
 unfoldable pub ready? : Frame → Bool
-ready? f = sound? f && not (isOpen (f .phase))
+ready? f = sound? f && phaseIn true false true (f .phase)

@@ -1,7 +1,7 @@
 -- Document 01, 'The frame runner': the rules of each call, by cases and in the document's order, and what each answer says.
 -- Assumes nothing.
 use Prim.Native.Nat.{ℕ, _+_}
-use mathlib.Core.Bool.{Bool, true, false, _&&_}
+use mathlib.Core.Bool.{Bool, true, false, cond, _&&_}
 use mathlib.Core.List.{List, [], _∷_}
 use mathlib.Core.Option.{Option, none, some}
 use lib.ListN.{set, replicate}
@@ -13,7 +13,7 @@ use Rattle.table.specs.declared.refusal.Refusal.the-variants as R
 use Rattle.table.specs.Refusals.{refusalSays}
 use Rattle.frame.specs.Finite.{finite?}
 use Rattle.frame.specs.Sound as S
-use Rattle.frame.specs.Sound.{pick, entryAt, entryId, placeAt, first, isOpen, open?, begun?}
+use Rattle.frame.specs.Sound.{entryAt, entryId, placeAt, first, isOpen, open?, begun?}
 use Rattle.frame.specs.declared.Phase.{Phase}
 use Rattle.frame.specs.declared.Phase.the-variants.{Idle, Closed}
 use Rattle.frame.specs.declared.Standing.{Standing}
@@ -48,7 +48,7 @@ readingSays reads.Missing = says (0 ∷ 3 ∷ [])
 -- "the job now on the panel with its choice": 1, its id, and 1 for away; "or none left": 0. No two answers say the same (proofs/Says.antt).
 abbrev pub answerSays : Answer → Said
 answerSays Done = says (0 ∷ [])
-answerSays (Panel id away) = says (0 ∷ 1 ∷ id ∷ pick away 1 0 ∷ [])
+answerSays (Panel id away) = says (0 ∷ 1 ∷ id ∷ cond away 1 0 ∷ [])
 answerSays Rest = says (0 ∷ 0 ∷ [])
 answerSays (Read r) = readingSays r
 answerSays (Refused r) = says (refusalSays r)
@@ -75,15 +75,15 @@ done f = record { answer = Done; frame = f }
 
 -- "PHASE unless open", and of an unsound record
 abbrev pub inOpen : Frame → Step → Step
-inOpen f s = pick (open? f) s (refused R.Phase f)
+inOpen f s = cond (open? f) s (refused R.Phase f)
 
 -- "CLOCK: time below that of the last accepted event"
 abbrev pub onClock : Frame → ℕ → Step → Step
-onClock f t s = pick (ltb t (f .clock)) (refused R.Clock f) s
+onClock f t s = cond (ltb t (f .clock)) (refused R.Clock f) s
 
 -- "gets its value if time <= D, else is late"
 abbrev pub judge : Float → ℕ → ℕ → ℕ → Standing
-judge v number time deadline = pick (leb time deadline) (Held (record { value = v; frame = number })) Late
+judge v number time deadline = cond (leb time deadline) (Held (record { value = v; frame = number })) Late
 
 -- the job at a place of the table stands at s from now on; the time and how far the plan is are set
 abbrev pub standing : Entry → Standing → Entry
@@ -115,8 +115,8 @@ panelEntry f = entryAt (f .entries) (panelPlace f)
 -- "Next: PHASE unless open; else the job now on the panel with its choice, or none left."
 unfoldable pub nextOf : Frame → Answer
 nextOf f =
-    pick (open? f)
-    (pick (ltb (f .next) (f .count)) (Panel (panelEntry f .id) (panelEntry f .away)) Rest)
+    cond (open? f)
+    (cond (ltb (f .next) (f .count)) (Panel (panelEntry f .id) (panelEntry f .away)) Rest)
     (Refused R.Phase)
 
 -- "Span end: .. for a here job VALUE. A here job gets its value if time <= D, else is late. An away job is now out, its value argument
@@ -124,7 +124,7 @@ nextOf f =
 abbrev pub spanAt : Frame → ℕ → Float → Bool → Step
 spanAt f t v true = done (moved f (panelPlace f) t (f .next + 1) Out)
 spanAt f t v false =
-    pick (finite? v)
+    cond (finite? v)
     (done (moved f (panelPlace f) t (f .next + 1) (judge v (f .number) t (f .deadline))))
     (refused R.Value f)
 
@@ -135,13 +135,13 @@ onPanel f id = ltb (f .next) (f .count) && eqb (panelEntry f .id) id
 -- "PHASE unless open; CLOCK; WHO; for a here job VALUE"
 unfoldable pub spanStep : Frame → ℕ → ℕ → Float → Step
 spanStep f id t v =
-    inOpen f (onClock f t (pick (onPanel f id) (spanAt f t v (panelEntry f .away)) (refused R.Who f)))
+    inOpen f (onClock f t (cond (onPanel f id) (spanAt f t v (panelEntry f .away)) (refused R.Who f)))
 
 -- "Return: .. WHO unless that job is out; VALUE. Value if time <= D, else late; no longer out."
 abbrev pub backAt : Frame → ℕ → ℕ → Float → Standing → Step
 backAt f at t v Waiting = refused R.Who f
 backAt f at t v Out =
-    pick (finite? v)
+    cond (finite? v)
     (done (moved f at t (f .next) (judge v (f .number) t (f .deadline))))
     (refused R.Value f)
 backAt f at t v (Held s) = refused R.Who f
@@ -154,7 +154,7 @@ backTo f t v Nothing = refused R.Who f
 -- "PHASE unless open; NUMBER; CLOCK; WHO; VALUE"
 unfoldable pub backStep : Frame → ℕ → ℕ → ℕ → Float → Step
 backStep f n id t v =
-    inOpen f (pick (eqb n (f .number)) (onClock f t (backTo f t v (whereIs f id))) (refused R.Number f))
+    inOpen f (cond (eqb n (f .number)) (onClock f t (backTo f t v (whereIs f id))) (refused R.Number f))
 
 -- "Close: PHASE unless open; CLOCK; EARLY if time < D."
 abbrev pub closed : Frame → ℕ → Frame
@@ -170,11 +170,11 @@ closed f t = record {
 }
 
 unfoldable pub closeStep : Frame → ℕ → Step
-closeStep f t = inOpen f (onClock f t (pick (ltb t (f .deadline)) (refused R.Early f) (done (closed f t))))
+closeStep f t = inOpen f (onClock f t (cond (ltb t (f .deadline)) (refused R.Early f) (done (closed f t))))
 
 -- "Read: .. else fresh with its value, pending, late, or missing (closed, never reported)"
 abbrev pub unreported : Phase → Reading
-unreported p = pick (isOpen p) reads.Pending reads.Missing
+unreported p = cond (isOpen p) reads.Pending reads.Missing
 
 abbrev pub readingOf : Phase → Standing → Reading
 readingOf p Waiting = unreported p
@@ -188,7 +188,7 @@ readAt f Nothing = Refused R.Who
 
 -- "PHASE if idle; WHO if not in the table"
 unfoldable pub readOf : Frame → ℕ → Answer
-readOf f id = pick (begun? f) (readAt f (whereIs f id)) (Refused R.Phase)
+readOf f id = cond (begun? f) (readAt f (whereIs f id)) (Refused R.Phase)
 
 -- every call but begin; next and read leave the record as it is
 abbrev pub asked : Frame → Answer → Step

@@ -5,6 +5,7 @@ use table::Table;
 use table::TableVerdict;
 use table::refusal::Refusal;
 ghost use mathlib.Core.Path.{_≡_};
+ghost use mathlib.Core.Bool.{_&&_};
 ghost use Prim.Native.Nat.{_<_, _≤_};
 ghost use lib.ListN.{length, take};
 ghost use Rattle.table.specs.Limits.{mostJobs};
@@ -12,7 +13,7 @@ ghost use Rattle.table.specs.Tables.{Sound, jobTable};
 ghost use Rattle.plan.specs.Plans.{stepId, noStep, readPlan};
 ghost use Rattle.judge.specs.Check.{afterPlan};
 ghost use Rattle.frame.specs.Finite.{finite?};
-ghost use Rattle.frame.specs.Sound.{none, placeAt, entryId, first, okEntry, okFrom, okBegun, sound?, open?, begun?, ready?};
+ghost use Rattle.frame.specs.Sound.{none, placeAt, entryId, first, okEntry, okFrom, okBegun, sound?, phaseIn};
 ghost use Rattle.frame.specs.Step.{idle, refused, judge, moved, spanAt, spanStep, backAt, backStep, closeStep, nextOf, unreported, readingOf, readOf, eventStep};
 ghost use Rattle.frame.specs.Begin.{stepsIn, awayIn, entriesOf, position, orderOf, begun, mayOpen, beginChecked, beginStep};
 
@@ -395,46 +396,18 @@ impl Frame {
         }
     }
 
-    // Sound and open; below, sound and begun, and sound and not open.
-    fn is_open(self) -> bool
-        ensures { λ r. ⌜ r ≡ open? self ⌝ }
+    // Sound, and in a phase in which a call is allowed: before the first frame, during one, after one.
+    fn is_in(self, before: bool, during: bool, after: bool) -> bool
+        ensures { λ r. ⌜ r ≡ (sound? self && phaseIn before during after (self .phase)) ⌝ }
     {
         if !self.sound() {
             return false;
         }
         let phase = self.phase;
         match phase {
-            Phase::Idle => false,
-            Phase::Open => true,
-            Phase::Closed => false,
-        }
-    }
-
-    fn is_begun(self) -> bool
-        ensures { λ r. ⌜ r ≡ begun? self ⌝ }
-    {
-        if !self.sound() {
-            return false;
-        }
-        let phase = self.phase;
-        match phase {
-            Phase::Idle => false,
-            Phase::Open => true,
-            Phase::Closed => true,
-        }
-    }
-
-    fn is_ready(self) -> bool
-        ensures { λ r. ⌜ r ≡ ready? self ⌝ }
-    {
-        if !self.sound() {
-            return false;
-        }
-        let phase = self.phase;
-        match phase {
-            Phase::Idle => true,
-            Phase::Open => false,
-            Phase::Closed => true,
+            Phase::Idle => before,
+            Phase::Open => during,
+            Phase::Closed => after,
         }
     }
 
@@ -474,7 +447,7 @@ impl Frame {
     pub fn begin(self, table: &[u8], plan: &[u8], number: u32) -> Step
         ensures { λ r. ⌜ r ≡ beginStep self (now (table .entry)) (now (plan .entry)) number ⌝ }
     {
-        if !self.is_ready() {
+        if !self.is_in(true, false, true) {
             return self.refuse(Refusal::Phase);
         }
         let read = table::read_table(table);
@@ -505,7 +478,7 @@ impl Frame {
     pub fn panel_job(self) -> Answer
         ensures { λ r. ⌜ r ≡ nextOf self ⌝ }
     {
-        if !self.is_open() {
+        if !self.is_in(false, true, false) {
             return Answer::Refused(Refusal::Phase);
         }
         let k = self.next;
@@ -543,7 +516,7 @@ impl Frame {
     pub fn span_end(self, id: u8, time: u16, value: f32) -> Step
         ensures { λ r. ⌜ r ≡ spanStep self id time value ⌝ }
     {
-        if !self.is_open() {
+        if !self.is_in(false, true, false) {
             return self.refuse(Refusal::Phase);
         }
         if time < self.clock {
@@ -587,7 +560,7 @@ impl Frame {
     pub fn give_back(self, number: u32, id: u8, time: u16, value: f32) -> Step
         ensures { λ r. ⌜ r ≡ backStep self number id time value ⌝ }
     {
-        if !self.is_open() {
+        if !self.is_in(false, true, false) {
             return self.refuse(Refusal::Phase);
         }
         if number != self.number {
@@ -615,7 +588,7 @@ impl Frame {
     pub fn close(self, time: u16) -> Step
         ensures { λ r. ⌜ r ≡ closeStep self time ⌝ }
     {
-        if !self.is_open() {
+        if !self.is_in(false, true, false) {
             return self.refuse(Refusal::Phase);
         }
         if time < self.clock {
@@ -645,7 +618,7 @@ impl Frame {
     pub fn read(self, id: u8) -> Answer
         ensures { λ r. ⌜ r ≡ readOf self id ⌝ }
     {
-        if !self.is_begun() {
+        if !self.is_in(false, true, true) {
             return Answer::Refused(Refusal::Phase);
         }
         let entries = self.entries;

@@ -25,7 +25,7 @@ use Rattle.frame_lent.proofs as frame-lent
 use Rattle.panel.specs.Numbers.{plannedNumbers, leastNumbers}
 use Rattle.frame.specs.declared.Step.{Step}
 use Rattle.settled.specs.Settled.{Settles, SettlesAsked}
-use Rattle.settled.specs.Lent.{BeginIn, CallIn}
+use Rattle.frame_promises.specs.Lent.{BeginIn, CallIn}
 
 -- ---- model
 

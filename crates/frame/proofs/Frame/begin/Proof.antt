@@ -1,23 +1,24 @@
 -- `frame::Frame::begin` meets its contract: PHASE, then the table's refusals, and a table that reads is sound and the one that its bytes mean.
 -- Assumes nothing.
-use mathlib.Core.Path.{sym, _∙_}
+use mathlib.Core.Path.{_∙_}
 use denote.Ref.{now}
 use borrow.Author.Tests.{not-true, not-false}
 use Rattle.table.proofs.Reading.{read-refused, read-whole}
 use Rattle.frame.specs.Begin.{beginStep}
+use Rattle.frame.proofs.Laws.{is-ready}
 use borrow.Author.Needs.{needs}
 use Rattle.frame.proofs.Frame.begin.Statement.{statement}
 use Rattle.frame.proofs.Frame.begin.Tie as tie
 
-is-ready-requires : tie.Need-is-ready-requires
-is-ready-requires c κs = search needs
+is-in-requires : tie.Need-is-in-requires
+is-in-requires c κs = search needs
 
 refuse-requires : tie.Need-refuse-requires
 refuse-requires c κs = search needs
 
 returns : tie.Need-returns
 unfolding beginStep
-returns c = simp (sym (c .before .before .is-ready .ensures) ∙ not-true _ (c .before .if1 .taken)) (c .refuse .ensures)
+returns c = simp (is-ready _ _ (c .before .before .is-in .ensures) ∙ not-true _ (c .before .if1 .taken)) (c .refuse .ensures)
 
 read-table-requires : tie.Need-read-table-requires
 read-table-requires c κs = search needs
@@ -39,13 +40,13 @@ returns-2 : tie.Need-returns-2
 unfolding beginStep
 returns-2 c =
     let whole = read-whole (now (c .before .before .before .before .before .before .before .before .args .table)) _ (c .before .before .before .read-table .ensures) (c .before .enum-told .given .1) in
-    let ready = sym (c .before .before .before .before .before .is-ready .ensures) ∙ not-false _ (c .before .before .before .before .if1 .left) in
+    let ready = is-ready _ _ (c .before .before .before .before .before .is-in .ensures) ∙ not-false _ (c .before .before .before .before .if1 .left) in
     simp (ready, whole .is) (c .begin-read .ensures)
 
 returns-3 : tie.Need-returns-3
 unfolding beginStep
 returns-3 c =
-    let ready = sym (c .before .before .before .before .before .before .is-ready .ensures) ∙ not-false _ (c .before .before .before .before .before .if1 .left) in
+    let ready = is-ready _ _ (c .before .before .before .before .before .before .is-in .ensures) ∙ not-false _ (c .before .before .before .before .before .if1 .left) in
     let bad = read-refused (now (c .before .before .before .before .before .before .before .before .before .args .table)) _ (c .before .before .before .before .read-table .ensures) _ (c .before .before .verdict .given .1) in
     simp (ready, bad) (c .refuse2 .ensures)
 
@@ -53,7 +54,7 @@ pub begin-spec : {M : Type 1} → statement M
 begin-spec =
     tie.close
     (tie.spec
-    is-ready-requires
+    is-in-requires
     refuse-requires
     returns
     read-table-requires

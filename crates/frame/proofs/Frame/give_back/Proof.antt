@@ -3,20 +3,20 @@ use mathlib.Core.Path.{sym, _∙_}
 use native.Mathlib.Omega.{arith}
 use borrow.Author.Tests.{lt-ltb, le-ltb, eq-eqb, ne-eqb, not-true, not-false}
 use Rattle.frame.specs.Step.{whereIs, backStep}
-use Rattle.frame.proofs.Laws.{open-fits, first-below}
+use Rattle.frame.proofs.Laws.{is-open, open-fits, first-below}
 use borrow.Author.Needs.{needs}
 use Rattle.frame.proofs.Frame.give_back.Statement.{statement}
 use Rattle.frame.proofs.Frame.give_back.Tie as tie
 
-is-open-requires : tie.Need-is-open-requires
-is-open-requires c κs = search needs
+is-in-requires : tie.Need-is-in-requires
+is-in-requires c κs = search needs
 
 refuse-requires : tie.Need-refuse-requires
 refuse-requires c κs = search needs
 
 returns : tie.Need-returns
 unfolding backStep
-returns c = simp (sym (c .before .before .is-open .ensures) ∙ not-true _ (c .before .if1 .taken)) (c .refuse .ensures)
+returns c = simp (is-open _ _ (c .before .before .is-in .ensures) ∙ not-true _ (c .before .if1 .taken)) (c .refuse .ensures)
 
 refuse-requires-2 : tie.Need-refuse-requires-2
 refuse-requires-2 c κs = search needs
@@ -25,7 +25,7 @@ returns-2 : tie.Need-returns-2
 unfolding backStep
 returns-2 c =
     simp (
-      sym (c .before .before .before .before .is-open .ensures) ∙ not-false _ (c .before .before .before .if1 .left),
+      is-open _ _ (c .before .before .before .before .is-in .ensures) ∙ not-false _ (c .before .before .before .if1 .left),
       ne-eqb _ _ (c .before .if2 .taken),
     )
     (c .refuse2 .ensures)
@@ -37,14 +37,14 @@ returns-3 : tie.Need-returns-3
 unfolding backStep
 returns-3 c =
     simp (
-      sym (c .before .before .before .before .before .is-open .ensures) ∙ not-false _ (c .before .before .before .before .if1 .left),
+      is-open _ _ (c .before .before .before .before .before .is-in .ensures) ∙ not-false _ (c .before .before .before .before .if1 .left),
       eq-eqb _ _ (c .before .before .if2 .left),
       lt-ltb _ _ (c .before .if3 .taken),
     )
     (c .refuse3 .ensures)
 
 find-in-requires : tie.Need-find-in-requires
-find-in-requires c κs = open-fits _ (sym (c .before .before .before .before .before .is-open .ensures) ∙ not-false _ (c .before .before .before .before .if1 .left))
+find-in-requires c κs = open-fits _ (is-open _ _ (c .before .before .before .before .before .is-in .ensures) ∙ not-false _ (c .before .before .before .before .if1 .left))
 
 enum-known-found : tie.Need-enum-known-found
 enum-known-found c = search needs
@@ -52,25 +52,25 @@ enum-known-found c = search needs
 mul-e : tie.Need-mul-e
 mul-e c =
     let at = sym (c .before .before .before .find-in .ensures) ∙ c .before .found .given .1 in
-    let opened = sym (c .before .before .before .before .before .before .before .before .before .is-open .ensures) ∙ not-false _ (c .before .before .before .before .before .before .before .before .if1 .left) in
+    let opened = is-open _ _ (c .before .before .before .before .before .before .before .before .before .is-in .ensures) ∙ not-false _ (c .before .before .before .before .before .before .before .before .if1 .left) in
     omega (arith, open-fits _ opened, first-below _ _ _ _ 0 _ _ at)
 
 array-copy-out-e : tie.Need-array-copy-out-e
 array-copy-out-e c =
     let at = sym (c .before .before .before .find-in .ensures) ∙ c .before .found .given .1 in
-    let opened = sym (c .before .before .before .before .before .before .before .before .before .is-open .ensures) ∙ not-false _ (c .before .before .before .before .before .before .before .before .if1 .left) in
+    let opened = is-open _ _ (c .before .before .before .before .before .before .before .before .before .is-in .ensures) ∙ not-false _ (c .before .before .before .before .before .before .before .before .if1 .left) in
     omega (arith, open-fits _ opened, first-below _ _ _ _ 0 _ _ at)
 
 back-at-requires : tie.Need-back-at-requires
 back-at-requires c κs =
     let at = sym (c .before .before .before .before .find-in .ensures) ∙ c .before .before .found .given .1 in
-    let opened = sym (c .before .before .before .before .before .before .before .before .before .before .is-open .ensures) ∙ not-false _ (c .before .before .before .before .before .before .before .before .before .if1 .left) in
+    let opened = is-open _ _ (c .before .before .before .before .before .before .before .before .before .before .is-in .ensures) ∙ not-false _ (c .before .before .before .before .before .before .before .before .before .if1 .left) in
     omega (arith, open-fits _ opened, first-below _ _ _ _ 0 _ _ at)
 
 returns-4 : tie.Need-returns-4
 unfolding whereIs backStep
 returns-4 c =
-    let opened = sym (c .before .before .before .before .before .before .before .before .before .before .before .is-open .ensures) ∙ not-false _ (c .before .before .before .before .before .before .before .before .before .before .if1 .left) in
+    let opened = is-open _ _ (c .before .before .before .before .before .before .before .before .before .before .before .is-in .ensures) ∙ not-false _ (c .before .before .before .before .before .before .before .before .before .before .if1 .left) in
     let number = eq-eqb _ _ (c .before .before .before .before .before .before .before .before .if2 .left) in
     let clock = le-ltb _ _ (c .before .before .before .before .before .before .before .if3 .left) in
     simp (opened, number, clock, sym (c .before .before .before .before .before .find-in .ensures) ∙ c .before .before .before .found .given .1) (c .back-at .ensures)
@@ -84,7 +84,7 @@ refuse-requires-4 c κs = search needs
 returns-5 : tie.Need-returns-5
 unfolding whereIs backStep
 returns-5 c =
-    let opened = sym (c .before .before .before .before .before .before .before .before .before .is-open .ensures) ∙ not-false _ (c .before .before .before .before .before .before .before .before .if1 .left) in
+    let opened = is-open _ _ (c .before .before .before .before .before .before .before .before .before .is-in .ensures) ∙ not-false _ (c .before .before .before .before .before .before .before .before .if1 .left) in
     let number = eq-eqb _ _ (c .before .before .before .before .before .before .if2 .left) in
     let clock = le-ltb _ _ (c .before .before .before .before .before .if3 .left) in
     simp (opened, number, clock, sym (c .before .before .before .find-in .ensures) ∙ c .before .enum-told .given .1) (c .refuse4 .ensures)
@@ -93,7 +93,7 @@ pub give-back-spec : {M : Type 1} → statement M
 give-back-spec =
     tie.close
     (tie.spec
-    is-open-requires
+    is-in-requires
     refuse-requires
     returns
     refuse-requires-2

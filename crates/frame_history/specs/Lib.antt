@@ -1,4 +1,0 @@
-pub mod History
-pub mod Replies
-pub mod Fresh
-pub mod Turns

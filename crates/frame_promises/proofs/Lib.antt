@@ -1,0 +1,14 @@
+pub mod Laws
+pub mod Since
+pub mod Agrees
+pub mod Told
+pub mod Replies
+pub mod Readings
+pub mod Numbers
+pub mod Apart
+pub mod Begins
+pub mod Going
+pub mod Own
+pub mod Played
+pub mod Lent
+pub mod Examples

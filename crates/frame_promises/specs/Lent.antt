@@ -1,0 +1,47 @@
+-- What the two contracts over a lent record tell a caller, read from their own `ensures`: Rattle makes no `Reads` for them, as their proofs are
+-- by hand. And sequences of calls on a record that is lent to each. Assumes nothing.
+use Prim.Native.Nat.{ℕ}
+use mathlib.Core.Path.{refl}
+use mathlib.Core.List.{List, [], _∷_}
+use base.Logic.{emp}
+use contract.Lifetimes.{Lfts}
+use borrow.Fn.Claims.{AllOf}
+use borrow.Fn.Read.{Read, all-models, no-know, r-last}
+use denote.Ref.{RefT}
+use denote.Triple.Entry.{Args, Res}
+use denote.Triple.Clauses.{Ended, AtExit}
+use Rattle.frame.specs.Run.{Call, begin, event}
+use Rattle.frame.specs.declared.Frame.{Frame}
+use Rattle.frame.specs.declared.Step.{Step}
+use Rattle.frame_lent.proofs as frame-lent
+use Rattle.frame_promises.specs.History.{Turn}
+use Rattle.frame_promises.specs.Runs.{to, Starts, Runs}
+
+-- of a call's inputs, its answer and its parameters at exit
+abbrev Tells : Ended → Type 1
+Tells T = (κs : Lfts (T .signature .lifetimes)) → Args (T .signature) κs → Res (T .signature) κs → AtExit T κs → Type 0
+
+abbrev pub BeginIn : Tells frame-lent.begin_in.ended
+BeginIn κs i r e =
+    let told : Read (λ w. emp (w .𝓤)) no-know (λ w. frame-lent.begin_in.clauses (w .𝓤) (w .H) (w .𝓖 .A) (w .𝓜 .mem) (w .𝓡 .run) κs i .ensures tt r e) =
+    all-models _ (λ w. r-last _) (λ w. refl) (λ w. refl) (λ w. refl)
+    in AllOf (told .tells)
+
+abbrev pub CallIn : Tells frame-lent.call_in.ended
+CallIn κs i r e =
+    let told : Read (λ w. emp (w .𝓤)) no-know (λ w. frame-lent.call_in.clauses (w .𝓤) (w .H) (w .𝓖 .A) (w .𝓜 .mem) (w .𝓡 .run) κs i .ensures tt r e) =
+    all-models _ (λ w. r-last _) (λ w. refl) (λ w. refl) (λ w. refl)
+    in AllOf (told .tells)
+
+-- a reference to this record; where it lies no contract speaks of
+abbrev lent : Frame → RefT Frame
+lent f = record { ptr = (0, 0); name = 0; now = f }
+
+-- `begin_in` and `call_in` may answer so, and leave this record where it was lent
+abbrev pub LentAllows : Frame → Call → Step → Type 0
+LentAllows f (begin table plan n) s =
+    BeginIn ([], ([], ([], tt))) (lent f, (to table, (to plan, (n, tt)))) (s .answer) (lent (s .frame), (to table, (to plan, (n, tt))))
+LentAllows f (event e) s = CallIn ([], tt) (lent f, (e, tt)) (s .answer) (lent (s .frame), (e, tt))
+
+abbrev pub LentFromIdle : List Turn → Type 0
+LentFromIdle ts = (f : Frame) × Starts f × Runs LentAllows f ts

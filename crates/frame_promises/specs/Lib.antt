@@ -1,0 +1,6 @@
+pub mod History
+pub mod Runs
+pub mod Lent
+pub mod Readings
+pub mod Sequences
+pub mod Own
