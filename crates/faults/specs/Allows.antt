@@ -10,9 +10,9 @@ use Rattle.plan.proofs as plan
 use Rattle.judge.specs.declared.Checked.{Checked}
 use Rattle.judge.proofs as judge
 
--- a reference to these bytes; where they lie, and for how long, no contract speaks of
-abbrev pub to : List ℕ → RefT (List ℕ)
-to s = record { ptr = (0, 0); name = 0; now = s }
+-- a reference to this; where it lies, and for how long, no contract speaks of
+abbrev pub to : {A : Type 0} → A → RefT A
+to x = record { ptr = (0, 0); name = 0; now = x }
 
 abbrev pub TableAllows : List ℕ → TableRead → Type 0
 TableAllows s r = table.read_table.Reads.Learnt ([], tt) (to s, tt) r (to s, tt)

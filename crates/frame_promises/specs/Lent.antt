@@ -7,15 +7,15 @@ use base.Logic.{emp}
 use contract.Lifetimes.{Lfts}
 use borrow.Fn.Claims.{AllOf}
 use borrow.Fn.Read.{Read, all-models, no-know, r-last}
-use denote.Ref.{RefT}
 use denote.Triple.Entry.{Args, Res}
 use denote.Triple.Clauses.{Ended, AtExit}
+use Rattle.faults.specs.Allows.{to}
 use Rattle.frame.specs.Run.{Call, begin, event}
 use Rattle.frame.specs.declared.Frame.{Frame}
 use Rattle.frame.specs.declared.Step.{Step}
 use Rattle.frame_lent.proofs as frame-lent
 use Rattle.frame_promises.specs.History.{Turn}
-use Rattle.frame_promises.specs.Runs.{to, Starts, Runs}
+use Rattle.frame_promises.specs.Runs.{Starts, Runs}
 
 -- of a call's inputs, its answer and its parameters at exit
 abbrev Tells : Ended → Type 1
@@ -33,15 +33,11 @@ CallIn κs i r e =
     all-models _ (λ w. r-last _) (λ w. refl) (λ w. refl) (λ w. refl)
     in AllOf (told .tells)
 
--- a reference to this record; where it lies no contract speaks of
-abbrev lent : Frame → RefT Frame
-lent f = record { ptr = (0, 0); name = 0; now = f }
-
 -- `begin_in` and `call_in` may answer so, and leave this record where it was lent
 abbrev pub LentAllows : Frame → Call → Step → Type 0
 LentAllows f (begin table plan n) s =
-    BeginIn ([], ([], ([], tt))) (lent f, (to table, (to plan, (n, tt)))) (s .answer) (lent (s .frame), (to table, (to plan, (n, tt))))
-LentAllows f (event e) s = CallIn ([], tt) (lent f, (e, tt)) (s .answer) (lent (s .frame), (e, tt))
+    BeginIn ([], ([], ([], tt))) (to f, (to table, (to plan, (n, tt)))) (s .answer) (to (s .frame), (to table, (to plan, (n, tt))))
+LentAllows f (event e) s = CallIn ([], tt) (to f, (e, tt)) (s .answer) (to (s .frame), (e, tt))
 
 abbrev pub LentFromIdle : List Turn → Type 0
 LentFromIdle ts = (f : Frame) × Starts f × Runs LentAllows f ts

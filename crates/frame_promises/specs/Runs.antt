@@ -3,17 +3,13 @@
 use Prim.Native.Nat.{ℕ}
 use mathlib.Core.Path.{_≡_}
 use mathlib.Core.List.{List, [], _∷_}
-use denote.Ref.{RefT}
+use Rattle.faults.specs.Allows.{to}
 use Rattle.frame.specs.Step.{answerSays}
 use Rattle.frame.specs.Run.{Call, begin, event}
 use Rattle.frame.specs.declared.Frame.{Frame}
 use Rattle.frame.specs.declared.Step.{Step}
 use Rattle.frame.proofs as frame
 use Rattle.frame_promises.specs.History.{Turn}
-
--- a reference to these bytes; where they lie no contract speaks of
-abbrev pub to : List ℕ → RefT (List ℕ)
-to s = record { ptr = (0, 0); name = 0; now = s }
 
 -- what `Frame::idle` may answer
 abbrev pub Starts : Frame → Type 0

@@ -11,7 +11,7 @@ use Rattle.plan.specs.Plans.{readPlan, recordAt}
 use Rattle.judge.specs.declared.Checked.{Checked}
 use Rattle.judge.specs.Check.{checkedSays, jobOf, listed, lacksOne, checkPlan}
 use Rattle.marked.specs.Marked.{E, planE}
-use Rattle.marked.specs.Allows.{FreeAllows, GivenAllows, LeastAllows, CheckAllows, BeginAllows, StepAllows}
+use Rattle.faults.specs.Allows.{CheckAllows}
 use Rattle.marked.specs.Versions.{verdict, PassesAll, PassesNone}
 use Rattle.marked.proofs.Examples.{bytes44}
 

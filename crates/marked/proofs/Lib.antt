@@ -1,4 +1,5 @@
 pub mod Cases
+pub mod Replies
 pub mod Examples
 pub mod Marked
 pub mod Planners

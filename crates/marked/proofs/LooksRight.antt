@@ -15,7 +15,7 @@ use Rattle.table.proofs.Refusals.{says-not-zero}
 use Rattle.plan.specs.Plans.{planBytes}
 use Rattle.planner.specs.Answers.{FreeAnswer}
 use Rattle.marked.specs.Marked.{E, marked, AllHold}
-use Rattle.marked.specs.Allows.{FreeAllows, GivenAllows, LeastAllows, CheckAllows, BeginAllows, StepAllows}
+use Rattle.accord.specs.Allows.{FreeAllows}
 use Rattle.marked.specs.Versions.{Planner, Plans, GoesBy, SoonerOnly, ShortestFirst, LastColumn}
 use Rattle.marked.proofs.Cases.{plan-case}
 use Rattle.marked.proofs.Marked.{marked-hold}

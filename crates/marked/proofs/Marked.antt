@@ -3,23 +3,24 @@
 use mathlib.Core.Path.{refl}
 use mathlib.Core.List.{[], _∷_}
 use native.Mathlib.Omega.{arith}
+use Rattle.table.specs.declared.refusal.Refusal.the-variants.{Short}
+use Rattle.table.specs.Refusals.{place}
 use Rattle.table.specs.Records.{formOf, judged, used, listFrom}
 use Rattle.table.specs.Tables.{frameAt, jobAt, jobsRead, readTable}
 use Rattle.plan.specs.Plans.{planBytes, readPlan, recordAt}
-use Rattle.judge.specs.Check.{jobOf, listed, lacksOne}
-use Rattle.frame.specs.Sound.{first, sound?, open?, begun?, ready?, okBegun, okFrom, okAt, okOrder, okId}
-use Rattle.frame.specs.Step.{spanStep, backStep, readOf, whereIs}
-use Rattle.frame.specs.Begin.{beginStep, begun, entriesOf, orderOf, awayIn, filled}
-use Rattle.frame.specs.Run.{after}
-use Rattle.marked.specs.Marked.{E, marked, AllHold}
+use Rattle.judge.specs.Check.{jobOf, listed, lacksOne, checkPlan}
+use Rattle.frame.specs.declared.Reading.the-variants.{Fresh, Late}
+use Rattle.frame_promises.specs.History.{replies, reportOf, without}
+use Rattle.marked.specs.Marked.{E, planE, one, upTo, marked, AllHold}
 use Rattle.marked.proofs.Cases.{plan-case, none-case, given-case, least-case}
+use Rattle.marked.proofs.Replies.{read-case, lastOf, events-case}
 use Rattle.marked.proofs.Examples.{eitherJob, jobTable, sent, kept, e1, e2, e3, chosenE, tableE, n1, n2}
 
 abbrev and : {P Q : Type 0} → P → Q → P × Q
 and p q = (p, q)
 
 pub marked-hold : AllHold
-unfolding AllHold marked E readTable frameAt jobsRead jobAt judged formOf listFrom used planBytes readPlan recordAt jobOf listed lacksOne after beginStep begun entriesOf orderOf awayIn filled first sound? open? begun? ready? okBegun okFrom okAt okOrder okId spanStep backStep readOf whereIs
+unfolding AllHold marked E readTable frameAt jobsRead jobAt judged formOf listFrom used planBytes readPlan recordAt jobOf listed lacksOne checkPlan lastOf replies reportOf without
 marked-hold =
     and (plan-case _ tableE refl chosenE refl)
     (and (none-case _ (jobTable 44 (e1 ∷ e2 ∷ e3 ∷ [])) refl refl)
@@ -33,4 +34,9 @@ marked-hold =
     (and (none-case _ (jobTable 39 (n1 ∷ n2 ∷ [])) refl refl)
     (and (plan-case _ (jobTable 1 []) refl [] refl)
     (and (least-case _ (jobTable 1 []) refl 0 (omega arith) [] refl (λ h. absurd (omega arith)))
-    (and refl (and refl (and refl tt))))))))))))))
+    (and (read-case [] (Short (place 0)) refl)
+    (and (events-case E planE (upTo 45) 1 (Fresh (record { value = one; frame = 1 })) refl)
+    (and (events-case E planE (upTo 46) 1 Late refl)
+    (and (events-case E planE (upTo 47) 1 Late refl)
+    (and (events-case E planE (upTo 4000) 1 Late refl)
+    tt))))))))))))))))

@@ -20,7 +20,7 @@ use Rattle.planner.specs.declared.Least.{Least}
 use Rattle.planner.specs.Answers as A
 use Rattle.planner.specs.Answers.{PlanAnswer, BestPlan, FreeAnswer, GivenAnswer, LeastAnswer}
 use Rattle.marked.specs.Marked.{E, planE, marked, AllHold}
-use Rattle.marked.specs.Allows.{FreeAllows, GivenAllows, LeastAllows, CheckAllows, BeginAllows, StepAllows}
+use Rattle.accord.specs.Allows.{FreeAllows, GivenAllows, LeastAllows}
 use Rattle.marked.specs.Versions.{Planner, Plans, NoneToAll, OneFixedPlan, NothingWritten, LastIsBusy, NotEmpty, TrueFigures, NeverMet, OneDeadline}
 use Rattle.marked.proofs.Examples.{tableE, readE, table6, plan6, table7, tableNo, readNo, given-E, given-6, given-7}
 use Rattle.marked.proofs.Marked.{marked-hold}

@@ -21,13 +21,14 @@ use Rattle.frame.specs.Step.{idle, eventStep, spanStep, backStep, closeStep, ne
 use Rattle.frame.specs.Begin.{beginStep, begun, entriesOf, orderOf, awayIn, filled}
 use Rattle.marked.specs.Marked as marked
 use Rattle.marked.specs.Marked.{planE, one}
-use Rattle.marked.specs.Allows.{FreeAllows, GivenAllows, LeastAllows, CheckAllows, BeginAllows, StepAllows}
+use Rattle.frame.specs.Run.{begin, event}
+use Rattle.frame_promises.specs.Runs.{Allows}
 use Rattle.marked.specs.Versions.{Runner, runs, OnlyNods, KeepsValues}
 
 -- the contracts of begin and of every other call
 pub record Meets (r : Runner) : Type 0 where
-  pub begins : (f : Frame) (s p : List ℕ) (n : ℕ) → BeginAllows f s p n (r .begin f s p n)
-  pub steps : (f : Frame) (e : Event) → StepAllows f e (r .step f e)
+  pub begins : (f : Frame) (s p : List ℕ) (n : ℕ) → Allows f (begin s p n) (r .begin f s p n)
+  pub steps : (f : Frame) (e : Event) → Allows f (event e) (r .step f e)
 
 -- the runner that the definitions are
 abbrev rules : Runner

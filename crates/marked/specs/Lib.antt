@@ -1,3 +1,2 @@
-pub mod Allows
 pub mod Marked
 pub mod Versions

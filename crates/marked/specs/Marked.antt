@@ -11,19 +11,22 @@ use Rattle.model.specs.Lists.{All}
 use Rattle.table.specs.declared.refusal.Refusal.{Refusal}
 use Rattle.table.specs.declared.refusal.Refusal.the-variants.{Short, None}
 use Rattle.table.specs.Limits.{longestPlan}
-use Rattle.table.specs.Refusals.{place, refused}
-use Rattle.table.specs.Tables.{readTable}
+use Rattle.table.specs.Refusals.{place, refusalSays}
+use Rattle.table.specs.Tables.{verdictSays}
+use Rattle.table.specs.declared.TableRead.{TableRead}
 use Rattle.planner.specs.declared.Planned.{Planned}
 use Rattle.planner.specs.declared.Least.{Least}
 use Rattle.planner.specs.Answers.{plannedSays, leastSays, Refuses}
 use Rattle.frame.specs.declared.Event.{Event}
-use Rattle.frame.specs.declared.Event.the-variants.{SpanEnd, Return}
+use Rattle.frame.specs.declared.Event.the-variants.{SpanEnd, Return, Read}
 use Rattle.frame.specs.declared.Reading.{Reading}
 use Rattle.frame.specs.declared.Reading.the-variants.{Fresh, Late}
-use Rattle.frame.specs.declared.Answer.the-variants.{Read}
-use Rattle.frame.specs.Step.{readOf}
-use Rattle.frame.specs.Run.{begin, event, reached}
-use Rattle.marked.specs.Allows.{FreeAllows, GivenAllows, LeastAllows}
+use Rattle.frame.specs.Step.{Said, readingSays}
+use Rattle.frame.specs.Run.{begin, event}
+use Rattle.accord.specs.Allows.{FreeAllows, GivenAllows, LeastAllows}
+use Rattle.faults.specs.Allows.{TableAllows}
+use Rattle.frame_promises.specs.History.{Turn}
+use Rattle.frame_promises.specs.Runs.{FromIdle}
 
 -- what is claimed of a table: its free-order plan with busy total and last finish, no free-order plan, no given-order plan, its least deadline, a refusal in reading,
 -- and what a job reads as after its plan is begun as frame 1 and these events have come
@@ -47,8 +50,10 @@ Claimed s (plan-is p busy last) =
 Claimed s no-plan = (before : List ℕ) (r : Planned) (after : List ℕ) → longestPlan ≤ length before → FreeAllows s before r after → Refuses None before r after
 Claimed s no-given = (before : List ℕ) (r : Planned) (after : List ℕ) → longestPlan ≤ length before → GivenAllows s before r after → Refuses None before r after
 Claimed s (least-is d) = (r : Least) → LeastAllows s r → leastSays r ≡ 0 ∷ d ∷ []
-Claimed s (read-as f) = readTable s ≡ refused f
-Claimed s (after-events p es id r) = readOf (reached (begin s p 1 ∷ map event es)) id ≡ Read r
+Claimed s (read-as f) = (r : TableRead) → TableAllows s r → verdictSays (r .verdict) ≡ refusalSays f
+Claimed s (after-events p es id r) =
+    (before : List Turn) (q : Said) → map (λ (t : Turn). t .call) before ≡ begin s p 1 ∷ map event es
+    → FromIdle (before ++ (record { call = event (Read id); said = q } ∷ [])) → q ≡ readingSays r
 
 abbrev pub Holds : Case → Type 0
 Holds c = Claimed (c .table) (c .claim)
@@ -89,7 +94,7 @@ one = fin false 1 (pos 0)
 abbrev pub upTo : ℕ → List Event
 upTo back = SpanEnd 1 5 one ∷ SpanEnd 2 15 one ∷ Return 1 2 25 one ∷ SpanEnd 3 40 one ∷ Return 1 1 back one ∷ []
 
--- The cases, by their numbers.
+-- The cases, by their numbers; of the last, with a return further behind the deadline too.
 unfoldable pub marked : List Case
 marked =
     case E (plan-is planE 40 45)
@@ -107,6 +112,8 @@ marked =
     ∷ case [] (read-as (Short (place 0)))
     ∷ case E (after-events planE (upTo 45) 1 (Fresh (record { value = one; frame = 1 })))
     ∷ case E (after-events planE (upTo 46) 1 Late)
+    ∷ case E (after-events planE (upTo 47) 1 Late)
+    ∷ case E (after-events planE (upTo 4000) 1 Late)
     ∷ []
 
 unfoldable pub AllHold : Type 0

@@ -1,3 +1,4 @@
 pub mod Functions
 pub mod Wrong
+pub mod Panel
 pub mod Weakened

@@ -5,7 +5,6 @@ use mathlib.Core.Logic.{_⊎_, inl, inr}
 use mathlib.Core.List.{List, []}
 use Prim.Native.Nat.{ℕ}
 use native.Mathlib.Omega.{arith}
-use denote.Ref.{RefT}
 use denote.Triple.Clauses.{Lasts, atExit}
 use Rattle.model.proofs.Lists.{clash}
 use Rattle.table.specs.Records.{judged, formOf}
@@ -15,6 +14,7 @@ use Rattle.judge.specs.declared.Checked.{Checked}
 use Rattle.judge.specs.declared.Checked.the-variants.{Fails}
 use Rattle.judge.specs.Check.{checkPlan}
 use Rattle.judge.proofs as judge
+use Rattle.faults.specs.Allows.{to}
 use Rattle.frame.specs.declared.Frame.{Frame}
 use Rattle.frame.specs.declared.Answer.the-variants.{Refused}
 use Rattle.frame.specs.declared.Event.the-variants.{Next}
@@ -22,10 +22,7 @@ use Rattle.frame.specs.Sound.{sound?, open?}
 use Rattle.frame.specs.Step.{idle, nextOf}
 use Rattle.frame_lent.proofs as frame-lent
 use Rattle.settled.specs.Settled.{Tells, Settles}
-use Rattle.settled.specs.Lent.{CallIn}
-
-abbrev to : {A : Type 0} → A → RefT A
-to x = record { ptr = (0, 0); name = 0; now = x }
+use Rattle.frame_promises.specs.Lent.{CallIn}
 
 -- the check, with LATE allowed for all
 abbrev OrLate : Tells judge.check_plan.ended

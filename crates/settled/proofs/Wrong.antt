@@ -8,7 +8,6 @@ use native.Mathlib.Omega.{arith}
 use lib.Ieee.{nan, fin}
 use lib.IntN.{pos}
 use lib.ListN.{getD, set, replicate}
-use denote.Ref.{RefT}
 use Rattle.model.specs.declared.Sending.the-variants.{Either}
 use Rattle.model.specs.declared.Job.{Job}
 use Rattle.model.specs.Laying.{chosen}
@@ -34,6 +33,7 @@ use Rattle.choice.proofs as choice
 use Rattle.draft.specs.declared.Draft.{Draft}
 use Rattle.draft.specs.Drafts.{draftOf, withChosen}
 use Rattle.draft.proofs as draft
+use Rattle.faults.specs.Allows.{to}
 use Rattle.frame.specs.declared.Frame.{Frame}
 use Rattle.frame.specs.declared.Phase.the-variants.{Open}
 use Rattle.frame.specs.Sound.{sound?, okBegun}
@@ -121,15 +121,15 @@ numbers-of = (
 
 -- ---- plan, draft
 
-abbrev two : RefT (List ℕ)
-two = record { ptr = (0, 0); name = 0; now = 0x21 ∷ 1 ∷ 0x20 ∷ 2 ∷ 0x2F ∷ [] }
+abbrev two : List ℕ
+two = 0x21 ∷ 1 ∷ 0x20 ∷ 2 ∷ 0x2F ∷ []
 
 abbrev step : ℕ → Bool → Step
 step id away = record { id = id; away = away }
 
 -- the step after it; the other choice
 abbrev FirstNot : Step → Type 0
-FirstNot x = RulesOut plan.step_at.ended plan.step_at.Reads.Learnt ([], tt) (two, (0, tt)) x
+FirstNot x = RulesOut plan.step_at.ended plan.step_at.Reads.Learnt ([], tt) (to two, (0, tt)) x
 
 pub step-at : FirstNot (step 2 false) × FirstNot (step 1 false)
 unfolding stepAt

@@ -1,0 +1,53 @@
+-- How a case about reading and about the frame runner is shown: what the reader's contract allows says its number, and what a sequence of calls
+-- is answered is the reply that its calls settle. Assumes nothing.
+use mathlib.Core.Path.{_≡_, refl, sym, ap, _∙_}
+use mathlib.Core.List.{List, [], _∷_, _++_, map, map-append}
+use Prim.Native.Nat.{ℕ}
+use Rattle.table.specs.declared.refusal.Refusal.{Refusal}
+use Rattle.table.specs.declared.TableRead.{TableRead}
+use Rattle.table.specs.Refusals.{refusalSays}
+use Rattle.table.specs.Tables.{readTable, tableRead, verdictSays}
+use Rattle.frame.specs.declared.Event.{Event}
+use Rattle.frame.specs.declared.Event.the-variants.{Read}
+use Rattle.frame.specs.declared.Reading.{Reading}
+use Rattle.frame.specs.Step.{Said, readingSays}
+use Rattle.frame.specs.Run.{Call, begin, event}
+use Rattle.frame_promises.specs.History.{Turn, History, idle, done, replies}
+use Rattle.frame_promises.specs.Runs.{FromIdle}
+use Rattle.frame_promises.proofs.Replies.{replies-told}
+use Rattle.marked.specs.Marked.{Claimed, read-as, after-events}
+
+pub read-case : (s : List ℕ) (f : Refusal) → verdictSays (tableRead (readTable s) .verdict) ≡ refusalSays f → Claimed s (read-as f)
+read-case s f e r a = ap (λ (x : TableRead). verdictSays (x .verdict)) a ∙ e
+
+-- what the last of some calls is answered
+unfoldable pub lastOf : Said → List Said → Said
+lastOf d [] = d
+lastOf d (x ∷ xs) = lastOf x xs
+
+lastOf-end : (d : Said) (xs : List Said) (q : Said) → lastOf d (xs ++ (q ∷ [])) ≡ q
+unfolding lastOf
+lastOf-end d [] q = refl
+lastOf-end d (x ∷ xs) q = lastOf-end x xs q
+
+abbrev callsOf : List Turn → List Call
+callsOf ts = map (λ (t : Turn). t .call) ts
+
+abbrev saidOf : List Turn → List Said
+saidOf ts = map (λ (t : Turn). t .said) ts
+
+-- a read after a begin as frame 1 and some events
+abbrev pub asked : List ℕ → List ℕ → List Event → ℕ → List Call
+asked s p es id = (begin s p 1 ∷ map event es) ++ (event (Read id) ∷ [])
+
+module _ (s p : List ℕ) (es : List Event) (id : ℕ) (r : Reading) where
+  pub events-case : lastOf done (replies idle (asked s p es id)) ≡ readingSays r → Claimed s (after-events p es id r)
+  events-case e before q calls runs =
+      let t : Turn = record { call = event (Read id); said = q } in
+      let made : callsOf (before ++ (t ∷ [])) ≡ asked s p es id =
+      map-append (λ (u : Turn). u .call) before (t ∷ []) ∙ ap (λ (cs : List Call). cs ++ (event (Read id) ∷ [])) calls in
+      sym (lastOf-end done (saidOf before) q)
+      ∙ ap (lastOf done) (sym (map-append (λ (u : Turn). u .said) before (t ∷ [])))
+      ∙ ap (lastOf done) (replies-told (before ++ (t ∷ [])) runs)
+      ∙ ap (λ (cs : List Call). lastOf done (replies idle cs)) made
+      ∙ e
