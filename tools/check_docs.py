@@ -21,6 +21,7 @@ from trusted import cells
 TOP = os.path.abspath(os.path.join(os.path.dirname(os.path.abspath(__file__)), '..'))
 DOCUMENTS = sorted(glob.glob('*.md', root_dir=TOP) + glob.glob('*/README.md', root_dir=TOP) + glob.glob('docs/**/*.md', root_dir=TOP, recursive=True))
 FUNCTIONS = 'docs/FUNCTIONS.md'
+FORMS = 'docs/DECISIONS.md'
 troubles = []
 
 
@@ -80,17 +81,19 @@ def check_names(document, tree):
         missing = [path for path in paths if path not in tree.texts]
         troubles.extend(f'{document}: there is no {path}' for path in missing)
         sources = '\n'.join(tree.texts[path] for path in paths if path not in missing)
-        for name in re.findall(r'`([\w?-]+)`', row[1]) if sources else []:
-            if not declares(name, sources) and document != FUNCTIONS:
+        # the table of forms has the names beside the file, the others in the column before it
+        named = row[2] if document == FORMS else row[1]
+        for name in re.findall(r'`([\w?-]+)`', named) if sources and document != FUNCTIONS else []:
+            if not declares(name, sources):
                 troubles.append(f'{document}: {name} is not declared in {", ".join(paths)}')
 
 
 def check_wrong_answers(tree):
     """The statements that FUNCTIONS.md names for wrong answers."""
-    wrong = {d.name for d in tree.theorems if d.path == 'crates/settled/proofs/Wrong.antt'}
+    wrong = {d.name for d in tree.theorems if d.path in ('crates/settled/proofs/Wrong.antt', 'crates/settled/proofs/Panel.antt')}
     for name in re.findall(r'`wrong\.([\w-]+)`', text(FUNCTIONS)):
         if name not in wrong:
-            troubles.append(f'{FUNCTIONS}: Wrong.antt has no {name}')
+            troubles.append(f'{FUNCTIONS}: crate settled rules out no {name}')
     every = {d.name for d in tree.theorems}
     for row in cells(text(FUNCTIONS)):
         for name in re.findall(r'\(`([a-z][\w]*-[\w-]*)`', row[-1]) if len(row) == 4 else []:
@@ -100,7 +103,7 @@ def check_wrong_answers(tree):
 
 def check_edits(document):
     for crate, names in re.findall(r'(\w+)/must-fail/(\w+(?:, \w+(?=[,)\s|]))*)', text(document)):
-        for name in names.split(', ') if crate != 'target' else []:
+        for name in names.split(', ') if crate not in ('target', 'NAME') else []:
             if not os.path.exists(os.path.join(TOP, 'crates', crate, 'must-fail', name + '.edit')):
                 troubles.append(f'{document}: there is no edit {crate}/must-fail/{name}')
 

@@ -62,7 +62,10 @@ def declarations(crate, path, text):
         if line.strip():
             sections = [(i, s) for i, s in sections if i < indent]
         if line.lstrip().startswith('module '):
-            sections.append((indent, squeeze(line)))
+            end = next((k for k in range(at, len(lines)) if lines[k].rstrip().endswith('where')), at)
+            sections.append((indent, squeeze(' '.join(lines[at:end + 1]))))
+            at = end + 1
+            continue
         head = starts(line)
         if not head:
             at += 1
