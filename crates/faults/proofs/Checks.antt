@@ -8,8 +8,8 @@ use mathlib.Core.Bool.{Bool, true, false, cond, not, _&&_, _||_, or-true}
 use mathlib.Core.List.{List, [], _∷_, _++_, map, List·Memᴰ, List·Memᴰ·head, List·Memᴰ·tail, append-nil}
 use mathlib.Core.Option.{none, some}
 use lib.Seq.{append-snoc}
-use lib.Dec.{T, leb, eqb}
-use borrow.Author.Tests.{leb-true, leb-false, le-leb, eqb-true, eqb-false, ne-eqb}
+use lib.Dec.{T, leb}
+use borrow.Author.Tests.{leb-true, leb-false, le-leb, ne-eqb}
 use Rattle.model.specs.declared.Job.{Job}
 use Rattle.model.specs.Lists.{All}
 use Rattle.model.specs.Timetable.{Chosen, Allowed, isEither, span}
@@ -36,7 +36,7 @@ use Rattle.judge.proofs.Jobs.{job-found, Named, perm-members, listed-from, lack
 use Rattle.faults.specs.Faults.{Byte, TableIs, PlanIs}
 use Rattle.faults.specs.Checks.{StepFault, stranger, kept, RunsOnTime, StepOk, PlanOf, fullRun, Misfit, at-step, left, late, CheckIs, no-table, no-plan}
 use Rattle.faults.specs.Checks.{misfit, passes}
-use Rattle.faults.proofs.Files.{exactly, exactly-one}
+use Rattle.faults.proofs.Files.{one-or-none, exactly, exactly-one}
 use Rattle.faults.proofs.Tables.{table-or-fault, table-read}
 use Rattle.faults.proofs.Plans.{plan-or-fault, plan-read}
 
@@ -60,18 +60,6 @@ job-none : (js : List Job) (id : ℕ) → All (λ (j : Job). ¬ (j .id ≡ id)) 
 unfolding jobOf
 job-none [] id h = refl
 job-none (j ∷ js) id h = rw (ne-eqb (j .id) id (h .0)) (job-none js id (h .1))
-
--- one has it, or none
-job-or-none : (js : List Job) (id : ℕ) → ((j : Job) × List·Memᴰ j js × (j .id ≡ id)) ⊎ All (λ (j : Job). ¬ (j .id ≡ id)) js
-job-or-none [] id = inr tt
-job-or-none (j ∷ js) id = step (eqb (j .id) id) refl (job-or-none js id)
-  where
-    step :
-        (b : Bool) → eqb (j .id) id ≡ b → ((i : Job) × List·Memᴰ i js × (i .id ≡ id)) ⊎ All (λ (i : Job). ¬ (i .id ≡ id)) js →
-        ((i : Job) × List·Memᴰ i (j ∷ js) × (i .id ≡ id)) ⊎ All (λ (i : Job). ¬ (i .id ≡ id)) (j ∷ js)
-    step true e o = inl (j, List·Memᴰ·head refl, eqb-true (j .id) id e)
-    step false e (inl r) = inl (r .0, List·Memᴰ·tail (r .1), r .2)
-    step false e (inr h) = inr (eqb-false (j .id) id e, h)
 
 module _ (js : List Job) (distinct : Distinct jobId js) where
   named : (cs : List Chosen) → All (λ (c : Chosen). List·Memᴰ (c .job) js) cs → All (Named js) cs
@@ -103,7 +91,7 @@ module _ (js : List Job) (distinct : Distinct jobId js) where
 
   -- a step has a fault or has none
   step-or-fault : (x : Step) → StepOk js x ⊎ ((f : Refusal) × StepFault js x f)
-  step-or-fault x = step (job-or-none js (x .id))
+  step-or-fault x = step (one-or-none jobId (x .id) js)
     where
       choice : (j : Job) → List·Memᴰ j js → j .id ≡ x .id → (w i : Bool) → x .away ≡ w → isEither j ≡ i → StepOk js x ⊎ ((f : Refusal) × StepFault js x f)
       choice j m e true true a b =
