@@ -4,6 +4,7 @@ use Prim.Native.Nat.{ℕ}
 use mathlib.Core.Path.{_≡_, refl, sym, ap, subst, _∙_}
 use mathlib.Core.Logic.{_⊎_, inl, inr, _↔_}
 use mathlib.Core.List.{List, [], _∷_}
+use lib.ListN.{length}
 use Rattle.model.specs.Lists.{All}
 use Rattle.model.specs.Timetable.{Chosen}
 use Rattle.model.specs.FreeOrder.{busy, lastFrom}
@@ -51,11 +52,11 @@ module _ (s : List ℕ) (r : TableRead) (allows : TableAllows s r) where
     pub table-says : (ns : List ℕ) → (verdictSays (r .verdict) ≡ ns) ↔ TableSays s ns
     table-says = exactly (TableSays s) (verdictSays (r .verdict)) something says-table
 
-    -- 0, or a number from 1 to 6 and a place
-    pub table-number : (verdictSays (r .verdict) ≡ 0 ∷ []) ⊎ Placed s (verdictSays (r .verdict))
+    -- 0, or a number from 1 to 6 and a place in the file or its length
+    pub table-number : (verdictSays (r .verdict) ≡ 0 ∷ []) ⊎ Placed (length s) (verdictSays (r .verdict))
     table-number = step (table-says (verdictSays (r .verdict)) .0 refl)
       where
-        step : {ns : List ℕ} → TableSays s ns → (ns ≡ 0 ∷ []) ⊎ Placed s ns
+        step : {ns : List ℕ} → TableSays s ns → (ns ≡ 0 ∷ []) ⊎ Placed (length s) ns
         step (a-table t is) = inl refl
         step (table-fault f is) = inr (table-placed is)
 
@@ -87,10 +88,10 @@ module _ (s : List ℕ) (r : PlanRead) (allows : PlanAllows s r) where
   pub plan-says : (ns : List ℕ) → (planReadSays r ≡ ns) ↔ PlanSays s ns
   plan-says = exactly (PlanSays s) (planReadSays r) steps-or says-plan
 
-  pub plan-number : ((n : ℕ) × (planReadSays r ≡ 0 ∷ n ∷ [])) ⊎ Placed s (planReadSays r)
+  pub plan-number : ((n : ℕ) × (planReadSays r ≡ 0 ∷ n ∷ [])) ⊎ Placed (length s) (planReadSays r)
   plan-number = step (plan-says (planReadSays r) .0 refl)
     where
-      step : {ns : List ℕ} → PlanSays s ns → ((n : ℕ) × (ns ≡ 0 ∷ n ∷ [])) ⊎ Placed s ns
+      step : {ns : List ℕ} → PlanSays s ns → ((n : ℕ) × (ns ≡ 0 ∷ n ∷ [])) ⊎ Placed (length s) ns
       step (a-plan xs is) = inl (_, refl)
       step (plan-fault f is) = inr (plan-placed is)
 
