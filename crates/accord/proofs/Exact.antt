@@ -27,7 +27,7 @@ use Rattle.faults.specs.Faults.{Byte, TableFault, TableIs}
 use Rattle.faults.proofs.Tables.{table-read, table-is}
 use Rattle.faults.proofs.Numbers.{table-placed}
 use Rattle.accord.specs.Allows.{FreeAllows, GivenAllows, LeastAllows}
-use Rattle.accord.specs.Exact.{SaysWhen, Possible, PlansWhen}
+use Rattle.accord.specs.Exact.{SaysWhen, MetByLargest, Possible, PlansWhen}
 
 -- a number from 1 up is not 0
 above : {P : Type 0} {n : ℕ} {ns ms : List ℕ} → 1 ≤ n → n ∷ ns ≡ 0 ∷ ms → P
@@ -121,15 +121,12 @@ module _ (s : List ℕ) (bytes : All Byte s) where
       plans-when InOrder MetInOrder BestInOrder (λ t. ((λ m. m), (λ m. m)))
       (λ D js xs p. best-in-order-iff D js .0 (xs, p))
 
-  -- The least deadline: "the table's own D being ignored; NONE if 4,000 is not met".
+  -- The least deadline.
   module _ (r : Least) (allows : LeastAllows s r) where
-    abbrev Can : JobTable → Type 0
-    Can t = Met largestTime (t .jobs)
-
-    pub least-says : SaysWhen s Can (leastSays r)
-    least-says = says-when Can (leastSays r) (told allows)
+    pub least-says : SaysWhen s MetByLargest (leastSays r)
+    least-says = says-when MetByLargest (leastSays r) (told allows)
       where
-        told : LeastAnswer s r → Told Can (leastSays r)
+        told : LeastAnswer s r → Told MetByLargest (leastSays r)
         told (bad-table f e h) = refuses f e h
         told (never-met t e never h) = misses t e never h
         told (met-from t e d l h) = finds t e (met-mono (t .jobs) d largestTime (l .high) (l .met)) _ h
@@ -142,7 +139,7 @@ module _ (s : List ℕ) (bytes : All Byte s) where
         go (bad-table f e h) = ((λ q. absurd (says-not-zero f (d ∷ []) (sym h ∙ q))), (λ l. no-table e (l .1)))
         go (never-met t e never h) = (
           (λ q. clash (cc (h, q))),
-          (λ l. absurd (never (subst Can (same-table e (l .1)) (met-mono (l .0 .jobs) d largestTime (l .2 .high) (l .2 .met))))),
+          (λ l. absurd (never (subst MetByLargest (same-table e (l .1)) (met-mono (l .0 .jobs) d largestTime (l .2 .high) (l .2 .met))))),
         )
         go (met-from t e c m h) = (
           (λ q. let same : c ≡ d = cc (h, q) in (t, table-is s bytes (accepted t) .0 e, subst (LeastDeadline largestTime (t .jobs)) same m)),

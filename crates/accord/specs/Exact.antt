@@ -7,10 +7,10 @@ use mathlib.Core.List.{List, [], _∷_, _++_, List·Permᴰ}
 use lib.ListN.{length, take, drop}
 use Rattle.model.specs.declared.Job.{Job}
 use Rattle.model.specs.Lists.{greatest}
-use Rattle.model.specs.Timetable.{Chosen, Placed, finish, Meets}
+use Rattle.model.specs.Timetable.{Chosen, Placed, finish, Meets, Met}
 use Rattle.model.specs.FreeOrder.{laid, spans}
 use Rattle.table.specs.declared.refusal.Refusal.{Refusal}
-use Rattle.table.specs.Limits.{longestPlan}
+use Rattle.table.specs.Limits.{largestTime, longestPlan}
 use Rattle.table.specs.Refusals.{refusalSays, accepted}
 use Rattle.table.specs.Tables.{JobTable}
 use Rattle.plan.specs.Plans.{planBytes}
@@ -24,6 +24,10 @@ pub record SaysWhen (s : List ℕ) (CanMeet : JobTable → Type 0) (says : List 
   pub fault : (n place : ℕ) → 1 ≤ n → (says ≡ n ∷ place ∷ []) ↔ ((f : Refusal) × TableFault s f × (refusalSays f ≡ n ∷ place ∷ []))
   pub seven : (says ≡ 7 ∷ []) ↔ ((t : JobTable) × TableIs s (accepted t) × ¬ (CanMeet t))
   pub zero : ((values : List ℕ) × (says ≡ 0 ∷ values)) ↔ ((t : JobTable) × TableIs s (accepted t) × CanMeet t)
+
+-- for the least deadline, "the table's own D being ignored; NONE if 4,000 is not met"
+abbrev pub MetByLargest : JobTable → Type 0
+MetByLargest t = Met largestTime (t .jobs)
 
 -- `Kind` is `Timetable` for the free order, and `InOrder`, a timetable in table order, for the given one.
 module _ (Kind : List Job → List Placed → Type 0) where

@@ -8,8 +8,8 @@ use mathlib.Core.Bool.{Bool, true, false, cond, not, _&&_, _||_, or-true}
 use mathlib.Core.List.{List, [], _∷_, _++_, map, List·Memᴰ, List·Memᴰ·head, List·Memᴰ·tail, append-nil}
 use mathlib.Core.Option.{none, some}
 use lib.Seq.{append-snoc}
-use lib.Dec.{T, leb, eqb}
-use borrow.Author.Tests.{leb-true, leb-false, le-leb, eqb-true, eqb-false, ne-eqb}
+use lib.Dec.{T, leb}
+use borrow.Author.Tests.{leb-true, leb-false, ne-eqb}
 use Rattle.model.specs.declared.Job.{Job}
 use Rattle.model.specs.Lists.{All}
 use Rattle.model.specs.Timetable.{Chosen, Allowed, isEither, span}
@@ -36,7 +36,7 @@ use Rattle.judge.proofs.Jobs.{job-found, Named, perm-members, listed-from, lack
 use Rattle.faults.specs.Faults.{Byte, TableIs, PlanIs}
 use Rattle.faults.specs.Checks.{StepFault, stranger, kept, RunsOnTime, StepOk, PlanOf, fullRun, Misfit, at-step, left, late, CheckIs, no-table, no-plan}
 use Rattle.faults.specs.Checks.{misfit, passes}
-use Rattle.faults.proofs.Files.{exactly, exactly-one}
+use Rattle.faults.proofs.Files.{one-or-none, exactly, exactly-one}
 use Rattle.faults.proofs.Tables.{table-or-fault, table-read}
 use Rattle.faults.proofs.Plans.{plan-or-fault, plan-read}
 
@@ -44,6 +44,31 @@ use Rattle.faults.proofs.Plans.{plan-or-fault, plan-read}
 full-iff : (D t : ℕ) (cs : List Chosen) → OnTime D t (fullRun cs) ↔ Fits D t cs
 full-iff D t [] = ((λ h. tt), (λ h. tt))
 full-iff D t (c ∷ cs) = let r = full-iff D (t + span c) cs in ((λ h. (h .0, r .0 (h .1))), (λ h. (h .0, r .1 (h .1))))
+
+-- The run at full entries decides: with it every run is on time, or it is late.
+module _ (D : ℕ) (cs : List Chosen) where
+  pub runs-full : RunsOnTime D cs → OnTime D 0 (fullRun cs)
+  runs-full runs = full-iff D 0 cs .1 (fits-iff-runs D cs .1 runs)
+
+  pub data Timed : Checked → Type 0 where
+    on-time : RunsOnTime D cs → Timed (Passes (lastFrom 0 cs) (busy cs))
+    too-late : ¬ OnTime D 0 (fullRun cs) → Timed (Fails Late)
+
+  pub timed-is : Timed (timed D cs)
+  timed-is = step (leb (lastFrom 0 cs) D) refl
+    where
+      step : (b : Bool) → leb (lastFrom 0 cs) D ≡ b → Timed (cond b (Passes (lastFrom 0 cs) (busy cs)) (Fails Late))
+      step true e = on-time (fits-iff-runs D cs .0 (fits-last D 0 cs .1 (leb-true _ _ e)))
+      step false e = too-late (λ h. omega (arith, fits-last D 0 cs .0 (full-iff D 0 cs .0 h), leb-false (lastFrom 0 cs) D e))
+
+  -- so only one of the two is said
+  said-late : ¬ OnTime D 0 (fullRun cs) → {c : Checked} → Timed c → c ≡ Fails Late
+  said-late out (on-time runs) = absurd (out (runs-full runs))
+  said-late out (too-late o) = refl
+
+  said-pass : RunsOnTime D cs → {c : Checked} → Timed c → c ≡ Passes (lastFrom 0 cs) (busy cs)
+  said-pass runs (on-time r) = refl
+  said-pass runs (too-late out) = absurd (out (runs-full runs))
 
 -- steps without a fault are these jobs with these choices
 steps-are :
@@ -60,18 +85,6 @@ job-none : (js : List Job) (id : ℕ) → All (λ (j : Job). ¬ (j .id ≡ id)) 
 unfolding jobOf
 job-none [] id h = refl
 job-none (j ∷ js) id h = rw (ne-eqb (j .id) id (h .0)) (job-none js id (h .1))
-
--- one has it, or none
-job-or-none : (js : List Job) (id : ℕ) → ((j : Job) × List·Memᴰ j js × (j .id ≡ id)) ⊎ All (λ (j : Job). ¬ (j .id ≡ id)) js
-job-or-none [] id = inr tt
-job-or-none (j ∷ js) id = step (eqb (j .id) id) refl (job-or-none js id)
-  where
-    step :
-        (b : Bool) → eqb (j .id) id ≡ b → ((i : Job) × List·Memᴰ i js × (i .id ≡ id)) ⊎ All (λ (i : Job). ¬ (i .id ≡ id)) js →
-        ((i : Job) × List·Memᴰ i (j ∷ js) × (i .id ≡ id)) ⊎ All (λ (i : Job). ¬ (i .id ≡ id)) (j ∷ js)
-    step true e o = inl (j, List·Memᴰ·head refl, eqb-true (j .id) id e)
-    step false e (inl r) = inl (r .0, List·Memᴰ·tail (r .1), r .2)
-    step false e (inr h) = inr (eqb-false (j .id) id e, h)
 
 module _ (js : List Job) (distinct : Distinct jobId js) where
   named : (cs : List Chosen) → All (λ (c : Chosen). List·Memᴰ (c .job) js) cs → All (Named js) cs
@@ -103,7 +116,7 @@ module _ (js : List Job) (distinct : Distinct jobId js) where
 
   -- a step has a fault or has none
   step-or-fault : (x : Step) → StepOk js x ⊎ ((f : Refusal) × StepFault js x f)
-  step-or-fault x = step (job-or-none js (x .id))
+  step-or-fault x = step (one-or-none jobId (x .id) js)
     where
       choice : (j : Job) → List·Memᴰ j js → j .id ≡ x .id → (w i : Bool) → x .away ≡ w → isEither j ≡ i → StepOk js x ⊎ ((f : Refusal) × StepFault js x f)
       choice j m e true true a b =
@@ -153,22 +166,12 @@ module _ (t : JobTable) (good : GoodTable t) where
 
   -- a plan of the table's jobs is judged by its run at full entries
   module _ (cs : List Chosen) (plan : PlanOf js cs) where
-    pub plan-judged : afterPlan t (accepted (stepsFor cs)) ≡ timed (t .deadline) cs
+    plan-judged : afterPlan t (accepted (stepsFor cs)) ≡ timed (t .deadline) cs
     plan-judged =
         rw (
           listed-from js cs (plan .allowed) (named js (good .distinct) cs (all-of-map theJob _ cs (perm-members (plan .each)))),
           none-left js cs (plan .each),
         )
-
-    pub plan-late : ¬ OnTime (t .deadline) 0 (fullRun cs) → afterPlan t (accepted (stepsFor cs)) ≡ Fails Late
-    plan-late out = plan-judged ∙ step (leb (lastFrom 0 cs) (t .deadline)) refl
-      where
-        step : (b : Bool) → leb (lastFrom 0 cs) (t .deadline) ≡ b → cond b (Passes (lastFrom 0 cs) (busy cs)) (Fails Late) ≡ Fails Late
-        step true e = absurd (out (full-iff (t .deadline) 0 cs .1 (fits-last (t .deadline) 0 cs .1 (leb-true _ _ e))))
-        step false e = refl
-
-    pub plan-passes : RunsOnTime (t .deadline) cs → afterPlan t (accepted (stepsFor cs)) ≡ Passes (lastFrom 0 cs) (busy cs)
-    plan-passes runs = plan-judged ∙ rw (le-leb _ _ (fits-last (t .deadline) 0 cs .0 (fits-iff-runs (t .deadline) cs .1 runs)))
 
   misfit-read : {xs : List Step} {f : Refusal} → Misfit t xs f → afterPlan t (accepted xs) ≡ Fails f
   misfit-read (at-step done x later {f} ok y) =
@@ -180,7 +183,15 @@ module _ (t : JobTable) (good : GoodTable t) where
       let r = steps-are js xs ok in
       let lists : listed js xs ≡ accepted (r .0) = ap (listed js) (sym (r .1)) ∙ listed-from js (r .0) (r .2) (named js (good .distinct) (r .0) (r .3)) in
       rw (lists, lacks-that (map stepId xs) (differs-unused stepId xs (j .id) d) m)
-  misfit-read (late cs plan out) = plan-late cs plan out
+  misfit-read (late cs plan out) = plan-judged cs plan ∙ said-late (t .deadline) cs out (timed-is (t .deadline) cs)
+
+-- a well-formed plan of its table's jobs is judged by its run at full entries
+pub plan-checked :
+    (s p : List ℕ) (t : JobTable) (cs : List Chosen) → TableIs s (accepted t) → PlanIs p (accepted (stepsFor cs)) → PlanOf (t .jobs) cs →
+    checkPlan s p ≡ timed (t .deadline) cs
+unfolding checkPlan
+plan-checked s p t cs table plan of =
+    ap (afterTable p) (table-read s (accepted t) table) ∙ (ap (afterPlan t) (plan-read p (accepted (stepsFor cs)) plan) ∙ plan-judged t (table .0) cs of)
 
 -- what they come to is what the check says
 pub check-read : (s p : List ℕ) (c : Checked) → CheckIs s p c → checkPlan s p ≡ c
@@ -190,56 +201,45 @@ check-read s p c (no-plan t {f} table y) = rw (table-read s (accepted t) table, 
 check-read s p c (misfit t xs table plan y) =
     ap (afterTable p) (table-read s (accepted t) table) ∙ (ap (afterPlan t) (plan-read p (accepted xs) plan) ∙ misfit-read t (table .0) y)
 check-read s p c (passes t cs table plan of runs) =
-    ap (afterTable p) (table-read s (accepted t) table) ∙ (ap (afterPlan t) (plan-read p (accepted (stepsFor cs)) plan) ∙ plan-passes t (table .0) cs of runs)
+    plan-checked s p t cs table plan of ∙ said-pass (t .deadline) cs runs (timed-is (t .deadline) cs)
 
--- and they come to something
-pub check-there : (s p : List ℕ) → All Byte s → (c : Checked) × CheckIs s p c
-check-there s p bytes = of-table (table-or-fault s bytes)
-  where
-    timely :
-        (t : JobTable) → TableIs s (accepted t) → (cs : List Chosen) → PlanIs p (accepted (stepsFor cs)) → PlanOf (t .jobs) cs → (b : Bool) →
-        leb (lastFrom 0 cs) (t .deadline) ≡ b → (c : Checked) × CheckIs s p c
-    timely t table cs plan of true e =
-        (Passes (lastFrom 0 cs) (busy cs), passes t cs table plan of (fits-iff-runs (t .deadline) cs .0 (fits-last (t .deadline) 0 cs .1 (leb-true _ _ e))))
-    timely t table cs plan of false e = (
-      Fails Late,
-      misfit t (stepsFor cs) table plan
-          (late cs of (λ h. omega (arith, fits-last (t .deadline) 0 cs .0 (full-iff (t .deadline) 0 cs .0 h), leb-false (lastFrom 0 cs) (t .deadline) e))),
-    )
+-- And they come to something.
+module _ (s p : List ℕ) where
+  abbrev Something : Type 0
+  Something = (c : Checked) × CheckIs s p c
 
-    all-there :
-        (t : JobTable) → TableIs s (accepted t) → (cs : List Chosen) → PlanIs p (accepted (stepsFor cs)) → All Allowed cs →
-        All (λ (c : Chosen). List·Memᴰ (c .job) (t .jobs)) cs → (c : Checked) × CheckIs s p c
-    all-there t table cs plan a m =
-        let n = named (t .jobs) (table .0 .distinct) cs m in
+  module _ (t : JobTable) (table : TableIs s (accepted t)) where
+    timely : (cs : List Chosen) → PlanIs p (accepted (stepsFor cs)) → PlanOf (t .jobs) cs → {c : Checked} → Timed (t .deadline) cs c → Something
+    timely cs plan of (on-time runs) = (_, passes t cs table plan of runs)
+    timely cs plan of (too-late out) = (_, misfit t (stepsFor cs) table plan (late cs of out))
+
+    -- steps of jobs of the table list all of them or leave one out
+    listed-or-left :
+        (cs : List Chosen) → PlanIs p (accepted (stepsFor cs)) → All Allowed cs → All (λ (c : Chosen). List·Memᴰ (c .job) (t .jobs)) cs →
+        All (StepOk (t .jobs)) (stepsFor cs) → Something
+    listed-or-left cs plan allowed members ok =
         ⊎-elim
-        (λ r. timely t table cs plan (record { each = r .1; allowed = a }) (leb (lastFrom 0 cs) (t .deadline)) refl)
+        (λ r. timely cs plan (record { each = r .1; allowed = allowed }) (timed-is (t .deadline) cs))
         (λ r.
-        let lacks = lacks-tells (map stepId (stepsFor cs)) (t .jobs) (r .1) in (
-          Fails Left,
-          misfit t (stepsFor cs) table plan
-              (left (stepsFor cs) (lacks .0) (oks cs a m) (lacks .1) (unused-differs stepId (stepsFor cs) (lacks .0 .id) (lacks .2))),
-        ))
-        (all-or-left (t .jobs) cs (table .0 .distinct) (plan .0 .distinct) n)
-      where
-        oks : (ds : List Chosen) → All Allowed ds → All (λ (c : Chosen). List·Memᴰ (c .job) (t .jobs)) ds → All (StepOk (t .jobs)) (stepsFor ds)
-        oks [] x y = tt
-        oks (d ∷ ds) x y = ((d, y .0, x .0, refl), oks ds (x .1) (y .1))
+        let lacks = lacks-tells (map stepId (stepsFor cs)) (t .jobs) (r .1) in
+        let differs = unused-differs stepId (stepsFor cs) (lacks .0 .id) (lacks .2) in
+        (Fails Left, misfit t (stepsFor cs) table plan (left (stepsFor cs) (lacks .0) ok (lacks .1) differs)))
+        (all-or-left (t .jobs) cs (table .0 .distinct) (plan .0 .distinct) (named (t .jobs) (table .0 .distinct) cs members))
 
-    of-steps : (t : JobTable) → TableIs s (accepted t) → (xs : List Step) → PlanIs p (accepted xs) → Steps t xs → (c : Checked) × CheckIs s p c
-    of-steps t table xs plan (inl ok) = let r = steps-are (t .jobs) xs ok in all-there t table (r .0) (rw (r .1) plan) (r .2) (r .3)
-    of-steps t table xs plan (inr y) = (Fails (y .0), misfit t xs table plan (y .1))
+    of-steps : (xs : List Step) → PlanIs p (accepted xs) → Steps t xs → Something
+    of-steps xs plan (inl ok) = let r = steps-are (t .jobs) xs ok in listed-or-left (r .0) (rw (r .1) plan) (r .2) (r .3) (rw (r .1) ok)
+    of-steps xs plan (inr y) = (Fails (y .0), misfit t xs table plan (y .1))
 
-    of-plan : (t : JobTable) → TableIs s (accepted t) → (o : Outcome (List Step)) × PlanIs p o → (c : Checked) × CheckIs s p c
-    of-plan t table o =
-        elim (o .0) as (λ q. PlanIs p q → (c : Checked) × CheckIs s p c)
-        [ accepted xs ↦ λ plan. of-steps t table xs plan (steps-or-fault t (table .0 .distinct) [] xs tt) | refused f ↦ λ y. (Fails f, no-plan t table y) ]
-        (o .1)
+    of-plan : (o : Outcome (List Step)) → PlanIs p o → Something
+    of-plan (accepted xs) plan = of-steps xs plan (steps-or-fault t (table .0 .distinct) [] xs tt)
+    of-plan (refused f) y = (Fails f, no-plan t table y)
 
-    of-table : (o : Outcome JobTable) × TableIs s o → (c : Checked) × CheckIs s p c
-    of-table o =
-        elim (o .0) as (λ q. TableIs s q → (c : Checked) × CheckIs s p c)
-        [ accepted t ↦ λ table. of-plan t table (plan-or-fault p) | refused f ↦ λ y. (Fails f, no-table y) ] (o .1)
+  of-table : (o : Outcome JobTable) → TableIs s o → Something
+  of-table (accepted t) table = of-plan t table (plan-or-fault p .0) (plan-or-fault p .1)
+  of-table (refused f) y = (Fails f, no-table y)
+
+  pub check-there : All Byte s → Something
+  check-there bytes = of-table (table-or-fault s bytes .0) (table-or-fault s bytes .1)
 
 pub check-is : (s p : List ℕ) → All Byte s → (c : Checked) → (checkPlan s p ≡ c) ↔ CheckIs s p c
 check-is s p bytes = exactly (CheckIs s p) (checkPlan s p) (check-there s p bytes) (check-read s p)

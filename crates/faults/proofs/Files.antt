@@ -5,7 +5,7 @@ use native.Mathlib.Omega.{arith}
 use mathlib.Core.Path.{_≡_, refl, sym, ap, subst, _∙_}
 use mathlib.Core.Logic.{_⊎_, inl, inr, _↔_}
 use mathlib.Core.Bool.{Bool, true, false}
-use mathlib.Core.List.{List, [], _∷_, _++_, map, flatMap, List·Memᴰ, List·Memᴰ·head, List·Memᴰ·tail, append-nil, append-assoc}
+use mathlib.Core.List.{List, [], _∷_, _++_, map, flatMap, List·Memᴰ, List·Memᴰ·head, List·Memᴰ·tail, Memᴰ·map, append-nil, append-assoc}
 use mathlib.Core.Option.{Option, none, some}
 use lib.ListN.{length, getD, drop, length-append, length-drop}
 use lib.Seq.{getD-drop, drop-at}
@@ -13,7 +13,7 @@ use lib.Dec.{eqb, ltb}
 use borrow.Author.Tests.{eqb-true, eqb-false, ltb-true, ltb-false, lt-leb}
 use native.Mathlib.Nat.{add-zero}
 use Rattle.model.specs.Lists.{All}
-use Rattle.model.proofs.Lists.{all-map, all-append, all-of-map, pairwise-append}
+use Rattle.model.proofs.Lists.{all-map, all-append, pairwise-append}
 use Rattle.table.specs.declared.refusal.Refusal.{Refusal}
 use Rattle.table.specs.declared.refusal.Refusal.the-variants.{Range, Many}
 use Rattle.table.specs.declared.kind.Meaning.{Meaning}
@@ -25,29 +25,22 @@ use Rattle.table.proofs.Listed.{used-member, flat-more, list-step, readOn, good
 use Rattle.judge.proofs.Jobs.{member-all}
 use Rattle.faults.specs.Faults.{Unread, no-byte, not-allowed, cut, Faulty, unread, many, range, twice, after, GoodList, ListFault, fault}
 
--- a number is not the first part of any line, or of one
-known : (kinds : List (ℕ × ℕ)) (k : ℕ) → All (λ (r : ℕ × ℕ). ¬ (k ≡ r .0)) kinds ⊎ ((n : ℕ) × List·Memᴰ (k, n) kinds)
-known [] k = inl tt
-known (r ∷ kinds) k = step (eqb k (r .0)) refl (known kinds k)
-  where
-    step :
-        (b : Bool) → eqb k (r .0) ≡ b → All (λ (q : ℕ × ℕ). ¬ (k ≡ q .0)) kinds ⊎ ((n : ℕ) × List·Memᴰ (k, n) kinds) →
-        All (λ (q : ℕ × ℕ). ¬ (k ≡ q .0)) (r ∷ kinds) ⊎ ((n : ℕ) × List·Memᴰ (k, n) (r ∷ kinds))
-    step true e o = inr (r .1, List·Memᴰ·head (λ i. (eqb-true k (r .0) e i, r .1)))
-    step false e (inl h) = inl (eqb-false k (r .0) e, h)
-    step false e (inr h) = inr (h .0, List·Memᴰ·tail (h .1))
+-- one of a list has a number, or none has
+module _ {A : Type 0} (f : A → ℕ) (n : ℕ) where
+  abbrev One : List A → Type 0
+  One xs = (x : A) × List·Memᴰ x xs × (f x ≡ n)
 
--- an id is among those before, or differs from each
-seen : (ids : List ℕ) (id : ℕ) → List·Memᴰ id ids ⊎ All (λ (i : ℕ). ¬ (i ≡ id)) ids
-seen [] id = inr tt
-seen (i ∷ ids) id = step (eqb i id) refl (seen ids id)
-  where
-    step :
-        (b : Bool) → eqb i id ≡ b → List·Memᴰ id ids ⊎ All (λ (k : ℕ). ¬ (k ≡ id)) ids →
-        List·Memᴰ id (i ∷ ids) ⊎ All (λ (k : ℕ). ¬ (k ≡ id)) (i ∷ ids)
-    step true e o = inl (List·Memᴰ·head (sym (eqb-true i id e)))
-    step false e (inl m) = inl (List·Memᴰ·tail m)
-    step false e (inr h) = inr (eqb-false i id e, h)
+  abbrev None : List A → Type 0
+  None = All (λ (x : A). ¬ (f x ≡ n))
+
+  pub one-or-none : (xs : List A) → One xs ⊎ None xs
+  one-or-none [] = inr tt
+  one-or-none (x ∷ xs) = step (eqb (f x) n) refl (one-or-none xs)
+    where
+      step : (b : Bool) → eqb (f x) n ≡ b → One xs ⊎ None xs → One (x ∷ xs) ⊎ None (x ∷ xs)
+      step true e o = inl (x, List·Memᴰ·head refl, eqb-true (f x) n e)
+      step false e (inl r) = inl (r .0, List·Memᴰ·tail (r .1), r .2)
+      step false e (inr h) = inr (eqb-false (f x) n e, h)
 
 -- a record whose kind is allowed and whose body is all there
 pub record Whole (kinds : List (ℕ × ℕ)) (rest : List ℕ) : Type 0 where
@@ -60,17 +53,17 @@ pub record Whole (kinds : List (ℕ × ℕ)) (rest : List ℕ) : Type 0 where
 
 pub unread-or-whole : (kinds : List (ℕ × ℕ)) (at : ℕ) (rest : List ℕ) → ((f : Refusal) × Unread kinds at rest f) ⊎ Whole kinds rest
 unread-or-whole kinds at [] = inl (_, no-byte)
-unread-or-whole kinds at (k ∷ more) = step (known kinds k)
+unread-or-whole kinds at (k ∷ more) = step (one-or-none (λ (r : ℕ × ℕ). r .0) k kinds)
   where
     fits : (n : ℕ) → List·Memᴰ (k, n) kinds → (b : Bool) → ltb (length more) n ≡ b → ((f : Refusal) × Unread kinds at (k ∷ more) f) ⊎ Whole kinds (k ∷ more)
     fits n m true e = inl (_, cut m (ltb-true _ _ e))
     fits n m false e = inr (record { kind = k; body = n; more = more; is = refl; allowed = m; there = ltb-false _ _ e })
 
     step :
-        All (λ (q : ℕ × ℕ). ¬ (k ≡ q .0)) kinds ⊎ ((n : ℕ) × List·Memᴰ (k, n) kinds) →
+        ((r : ℕ × ℕ) × List·Memᴰ r kinds × (r .0 ≡ k)) ⊎ All (λ (r : ℕ × ℕ). ¬ (r .0 ≡ k)) kinds →
         ((f : Refusal) × Unread kinds at (k ∷ more) f) ⊎ Whole kinds (k ∷ more)
-    step (inl h) = inl (_, not-allowed h)
-    step (inr h) = fits (h .0) (h .1) (ltb (length more) (h .0)) refl
+    step (inl h) = fits (h .0 .1) (subst (λ (r : ℕ × ℕ). List·Memᴰ r kinds) (λ i. (h .2 i, h .0 .1)) (h .1)) (ltb (length more) (h .0 .1)) refl
+    step (inr h) = inl (_, not-allowed (all-map (λ r n e. n (sym e)) kinds h))
 
 -- Every file is told. `Byte` is what is known of each byte; a whole record is one that is listed, or the end.
 module _
@@ -87,11 +80,11 @@ module _
   abbrev pub Told : List ℕ → Type 0
   Told s = ((xs : List A) × Good xs × (s ≡ first ++ flatMap bytesOf xs ++ (end ∷ []))) ⊎ ((f : Refusal) × ListFault idOf bytesOf InRange kinds end first s f)
 
-  good-more : (xs : List A) (x : A) → Good xs → length xs < mostJobs → InRange x → All (λ (i : ℕ). ¬ (i ≡ idOf x)) (map idOf xs) → Good (xs ++ (x ∷ []))
+  good-more : (xs : List A) (x : A) → Good xs → length xs < mostJobs → InRange x → All (λ (y : A). ¬ (idOf y ≡ idOf x)) xs → Good (xs ++ (x ∷ []))
   good-more xs x good room ok new =
       record {
         few = omega (arith, length-append xs (x ∷ []));
-        distinct = pairwise-append _ xs (x ∷ []) (good .distinct) (tt, tt) (all-map (λ y d. (d, tt)) xs (all-of-map idOf _ xs new));
+        distinct = pairwise-append _ xs (x ∷ []) (good .distinct) (tt, tt) (all-map (λ y d. (d, tt)) xs new);
         each = all-append InRange xs (x ∷ []) (good .each) (ok, tt);
       }
 
@@ -110,16 +103,16 @@ module _
     told-listed x more bytes = room (ltb (length xs) mostJobs) refl
       where
         new :
-            length xs < mostJobs → InRange x → List·Memᴰ (idOf x) (map idOf xs) ⊎ All (λ (i : ℕ). ¬ (i ≡ idOf x)) (map idOf xs) →
+            length xs < mostJobs → InRange x → One idOf (idOf x) xs ⊎ None idOf (idOf x) xs →
             Told (first ++ flatMap bytesOf xs ++ (bytesOf x ++ more))
-        new h ok (inl m) = faulty (twice x more h ok m)
+        new h ok (inl m) = faulty (twice x more h ok (subst (λ (i : ℕ). List·Memᴰ i (map idOf xs)) (m .2) (Memᴰ·map idOf (m .1))))
         new h ok (inr d) =
             subst Told (append-assoc first (flatMap bytesOf (xs ++ (x ∷ []))) more ∙
             (ap (λ (l : List ℕ). first ++ l) (flat-more bytesOf xs x more) ∙ sym (append-assoc first (flatMap bytesOf xs) (bytesOf x ++ more))))
             (on x more h (good-more xs x good h ok d) bytes)
 
         ranged : length xs < mostJobs → InRange x ⊎ ¬ InRange x → Told (first ++ flatMap bytesOf xs ++ (bytesOf x ++ more))
-        ranged h (inl ok) = new h ok (seen (map idOf xs) (idOf x))
+        ranged h (inl ok) = new h ok (one-or-none idOf (idOf x) xs)
         ranged h (inr out) = faulty (range x more h out)
 
         room : (b : Bool) → ltb (length xs) mostJobs ≡ b → Told (first ++ flatMap bytesOf xs ++ (bytesOf x ++ more))

@@ -1,43 +1,78 @@
 -- "1 to 6 return number and place, the rest the number": a fault of a file has one of the first six numbers, and its place is in the file or its length;
 -- a plan that does not fit its table has one of 8 to 11. Assumes nothing.
-use Prim.Native.Nat.{ℕ, _+_, _≤_}
+use Prim.Native.Nat.{ℕ, _+_, _*_, _≤_}
 use native.Mathlib.Omega.{arith}
-use mathlib.Core.Path.{_≡_, refl}
+use mathlib.Core.Path.{_≡_, refl, ap, _∙_}
 use mathlib.Core.List.{List, [], _∷_, _++_, flatMap}
 use lib.ListN.{length, length-append}
+use Rattle.model.specs.declared.Sending.{Sending}
+use Rattle.model.specs.declared.Sending.the-variants.{HereOnly, Either}
+use Rattle.model.specs.declared.Job.{Job}
 use Rattle.table.specs.declared.refusal.Refusal.{Refusal}
-use Rattle.table.specs.Refusals.{refusalSays}
-use Rattle.table.specs.Tables.{JobTable}
+use Rattle.table.specs.Refusals.{refusalSays, accepted}
+use Rattle.table.specs.Limits.{longestTable}
+use Rattle.table.specs.Tables.{JobTable, sendingBytes, jobBytes}
 use Rattle.plan.specs.declared.Step.{Step}
 use Rattle.faults.specs.Faults.{Unread, no-byte, not-allowed, cut, Faulty, unread, many, range, twice, after, ListFault, fault, TableFault, in-frame}
-use Rattle.faults.specs.Faults.{deadline, in-row, PlanFault, Placed}
+use Rattle.faults.specs.Faults.{deadline, in-row, frameBytes, PlanFault, TableIs, Placed}
+use Rattle.faults.proofs.Tables.{table-flat}
 use Rattle.faults.specs.Checks.{stranger, kept, Misfit, at-step, left, late}
 
-unread-placed : {kinds : List (ℕ × ℕ)} {at : ℕ} {rest : List ℕ} {f : Refusal} → Unread kinds at rest f → (s : List ℕ) → at ≤ length s → Placed s (refusalSays f)
-unread-placed {at = at} no-byte s h = record { number = 1; place = at; says = refl; low = omega arith; high = omega arith; within = h }
-unread-placed {at = at} (not-allowed k) s h = record { number = 2; place = at; says = refl; low = omega arith; high = omega arith; within = h }
-unread-placed {at = at} (cut m k) s h = record { number = 1; place = at; says = refl; low = omega arith; high = omega arith; within = h }
+unread-placed : {kinds : List (ℕ × ℕ)} {at : ℕ} {rest : List ℕ} {f : Refusal} → Unread kinds at rest f → (most : ℕ) → at ≤ most → Placed most (refusalSays f)
+unread-placed {at = at} no-byte most h = record { number = 1; place = at; says = refl; low = omega arith; high = omega arith; within = h }
+unread-placed {at = at} (not-allowed k) most h = record { number = 2; place = at; says = refl; low = omega arith; high = omega arith; within = h }
+unread-placed {at = at} (cut m k) most h = record { number = 1; place = at; says = refl; low = omega arith; high = omega arith; within = h }
 
 module _ {A : Type 0} {idOf : A → ℕ} {bytesOf : A → List ℕ} {InRange : A → Type 0} {kinds : List (ℕ × ℕ)} {end : ℕ} where
+  -- a record that begins by `most`, and where it has bytes one before
   faulty-placed :
       {xs : List A} {at : ℕ} {rest : List ℕ} {f : Refusal} → Faulty idOf bytesOf InRange kinds end xs at rest f →
-      (s : List ℕ) → at + length rest ≤ length s → Placed s (refusalSays f)
-  faulty-placed (unread u) s h = unread-placed u s (omega arith)
-  faulty-placed {at = at} (many x more k) s h = record { number = 4; place = at; says = refl; low = omega arith; high = omega arith; within = omega arith }
-  faulty-placed {at = at} (range x more k o) s h = record { number = 3; place = at; says = refl; low = omega arith; high = omega arith; within = omega arith }
-  faulty-placed {at = at} (twice x more k o m) s h = record { number = 5; place = at; says = refl; low = omega arith; high = omega arith; within = omega arith }
-  faulty-placed {at = at} after s h = record { number = 6; place = at + 1; says = refl; low = omega arith; high = omega arith; within = omega arith }
+      (most : ℕ) → at ≤ most → (1 ≤ length rest → at + 1 ≤ most) → Placed most (refusalSays f)
+  faulty-placed (unread u) most h k = unread-placed u most h
+  faulty-placed {at = at} (many x more n) most h k = record { number = 4; place = at; says = refl; low = omega arith; high = omega arith; within = h }
+  faulty-placed {at = at} (range x more n o) most h k = record { number = 3; place = at; says = refl; low = omega arith; high = omega arith; within = h }
+  faulty-placed {at = at} (twice x more n o m) most h k = record { number = 5; place = at; says = refl; low = omega arith; high = omega arith; within = h }
+  faulty-placed {at = at} after most h k =
+      record { number = 6; place = at + 1; says = refl; low = omega arith; high = omega arith; within = k (omega arith) }
 
-  list-placed : {first s : List ℕ} {f : Refusal} → ListFault idOf bytesOf InRange kinds end first s f → Placed s (refusalSays f)
-  list-placed {first} (fault xs rest good y) = faulty-placed y _ (omega (arith, length-append (first ++ flatMap bytesOf xs) rest))
+  list-placed : {first s : List ℕ} {f : Refusal} → ListFault idOf bytesOf InRange kinds end first s f → Placed (length s) (refusalSays f)
+  list-placed {first} (fault xs rest good y) =
+      let size = length-append (first ++ flatMap bytesOf xs) rest in
+      faulty-placed y _ (omega arith) (λ k. omega arith)
 
-pub table-placed : {s : List ℕ} {f : Refusal} → TableFault s f → Placed s (refusalSays f)
-table-placed {s} (in-frame u) = unread-placed u s (omega arith)
+pub table-placed : {s : List ℕ} {f : Refusal} → TableFault s f → Placed (length s) (refusalSays f)
+table-placed (in-frame u) = unread-placed u _ (omega arith)
 table-placed (deadline D more out) = record { number = 3; place = 0; says = refl; low = omega arith; high = omega arith; within = omega arith }
 table-placed (in-row D ok y) = list-placed y
 
-pub plan-placed : {s : List ℕ} {f : Refusal} → PlanFault s f → Placed s (refusalSays f)
+pub plan-placed : {s : List ℕ} {f : Refusal} → PlanFault s f → Placed (length s) (refusalSays f)
 plan-placed y = list-placed y
+
+-- However long the bytes are, a table is refused at 260 at the latest: a job takes at most eight bytes, so the 33rd begins at 259 at the latest.
+sending-length : (id C : ℕ) (d : Sending) → length (sendingBytes id C d) ≤ 8
+sending-length id C HereOnly = omega arith
+sending-length id C (Either S I) = omega arith
+
+jobs-length : (js : List Job) → length (flatMap jobBytes js) ≤ 8 * length js
+unfolding flatMap
+jobs-length [] = omega arith
+jobs-length (j ∷ js) =
+    omega (arith, length-append (jobBytes j) (flatMap jobBytes js), sending-length (j .id) (j .local) (j .sending), jobs-length js)
+
+pub table-near : {s : List ℕ} {f : Refusal} → TableFault s f → Placed longestTable (refusalSays f)
+table-near (in-frame u) = unread-placed u longestTable (omega arith)
+table-near (deadline D more out) = record { number = 3; place = 0; says = refl; low = omega arith; high = omega arith; within = omega arith }
+table-near (in-row D ok (fault js rest good y)) =
+    let size = length-append (frameBytes D) (flatMap jobBytes js) in
+    let few = good .few in
+    faulty-placed y longestTable (omega (arith, jobs-length js)) (λ k. omega (arith, jobs-length js))
+
+-- and an accepted table has at most 260 bytes
+pub table-short : {s : List ℕ} {t : JobTable} → TableIs s (accepted t) → length s ≤ longestTable
+table-short {s} {t} is =
+    let size = ap length (is .1 ∙ table-flat (t .deadline) (t .jobs)) in
+    let parts = length-append (frameBytes (t .deadline) ++ flatMap jobBytes (t .jobs)) (0x1F ∷ []) in
+    omega (arith, length-append (frameBytes (t .deadline)) (flatMap jobBytes (t .jobs)), jobs-length (t .jobs), is .0 .few)
 
 -- STRANGER, KEPT, LEFT and LATE are 8 to 11, with no place
 pub misfit-number : {t : JobTable} {xs : List Step} {f : Refusal} → Misfit t xs f → (n : ℕ) × (8 ≤ n) × (n ≤ 11) × (refusalSays f ≡ n ∷ [])

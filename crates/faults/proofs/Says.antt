@@ -1,21 +1,15 @@
 -- The readers' and the check's own contracts, in document 01's numbers: whatever they allow says ns exactly when the account of specs/ says ns.
 -- Assumes nothing.
 use Prim.Native.Nat.{ℕ}
-use native.Mathlib.Omega.{arith}
 use mathlib.Core.Path.{_≡_, refl, sym, ap, subst, _∙_}
 use mathlib.Core.Logic.{_⊎_, inl, inr, _↔_}
-use mathlib.Core.Bool.{Bool, true, false, cond}
 use mathlib.Core.List.{List, [], _∷_}
-use lib.Dec.{leb}
-use borrow.Author.Tests.{leb-true, leb-false}
+use lib.ListN.{length}
 use Rattle.model.specs.Lists.{All}
 use Rattle.model.specs.Timetable.{Chosen}
 use Rattle.model.specs.FreeOrder.{busy, lastFrom}
 use Rattle.model.proofs.Lists.{clash}
-use Rattle.model.proofs.Runs.{fits-iff-runs}
-use Rattle.model.proofs.Bounds.{fits-last}
 use Rattle.table.specs.declared.TableRead.{TableRead}
-use Rattle.table.specs.declared.refusal.Refusal.the-variants.{Late}
 use Rattle.table.specs.Refusals.{refusalSays, Outcome, accepted, refused}
 use Rattle.table.specs.Tables.{JobTable, jobTable, tableRead, verdictSays, tableBytes}
 use Rattle.table.proofs.Accepted.{held-table}
@@ -25,8 +19,7 @@ use Rattle.plan.specs.declared.PlanRead.{PlanRead}
 use Rattle.plan.specs.Plans.{planRead, planReadSays}
 use Rattle.draft.specs.Drafts.{stepsFor}
 use Rattle.judge.specs.declared.Checked.{Checked}
-use Rattle.judge.specs.declared.Checked.the-variants.{Passes, Fails}
-use Rattle.judge.specs.Check.{checkedSays, timed, afterPlan, afterTable, checkPlan}
+use Rattle.judge.specs.Check.{checkedSays}
 use Rattle.faults.specs.Faults.{Byte, TableIs, PlanIs, TableSays, a-table, table-fault, PlanSays, a-plan, plan-fault, Placed}
 use Rattle.faults.specs.Checks.{RunsOnTime, PlanOf, CheckIs, no-table, no-plan, misfit, passes, CheckSays, Passed, CheckNumbers}
 use Rattle.faults.specs.Checks.{of-pass, of-table, of-plan, of-misfit}
@@ -34,7 +27,7 @@ use Rattle.faults.specs.Allows.{TableAllows, PlanAllows, CheckAllows}
 use Rattle.faults.proofs.Files.{exactly}
 use Rattle.faults.proofs.Tables.{table-or-fault, table-read}
 use Rattle.faults.proofs.Plans.{plan-or-fault, plan-read}
-use Rattle.faults.proofs.Checks.{plan-judged, check-read, check-there}
+use Rattle.faults.proofs.Checks.{Timed, on-time, too-late, timed-is, runs-full, plan-checked, check-read, check-there}
 use Rattle.faults.proofs.Numbers.{table-placed, plan-placed, misfit-number}
 
 -- The table's reader.
@@ -59,11 +52,11 @@ module _ (s : List ℕ) (r : TableRead) (allows : TableAllows s r) where
     pub table-says : (ns : List ℕ) → (verdictSays (r .verdict) ≡ ns) ↔ TableSays s ns
     table-says = exactly (TableSays s) (verdictSays (r .verdict)) something says-table
 
-    -- 0, or a number from 1 to 6 and a place
-    pub table-number : (verdictSays (r .verdict) ≡ 0 ∷ []) ⊎ Placed s (verdictSays (r .verdict))
+    -- 0, or a number from 1 to 6 and a place in the file or its length
+    pub table-number : (verdictSays (r .verdict) ≡ 0 ∷ []) ⊎ Placed (length s) (verdictSays (r .verdict))
     table-number = step (table-says (verdictSays (r .verdict)) .0 refl)
       where
-        step : {ns : List ℕ} → TableSays s ns → (ns ≡ 0 ∷ []) ⊎ Placed s ns
+        step : {ns : List ℕ} → TableSays s ns → (ns ≡ 0 ∷ []) ⊎ Placed (length s) ns
         step (a-table t is) = inl refl
         step (table-fault f is) = inr (table-placed is)
 
@@ -95,10 +88,10 @@ module _ (s : List ℕ) (r : PlanRead) (allows : PlanAllows s r) where
   pub plan-says : (ns : List ℕ) → (planReadSays r ≡ ns) ↔ PlanSays s ns
   plan-says = exactly (PlanSays s) (planReadSays r) steps-or says-plan
 
-  pub plan-number : ((n : ℕ) × (planReadSays r ≡ 0 ∷ n ∷ [])) ⊎ Placed s (planReadSays r)
+  pub plan-number : ((n : ℕ) × (planReadSays r ≡ 0 ∷ n ∷ [])) ⊎ Placed (length s) (planReadSays r)
   plan-number = step (plan-says (planReadSays r) .0 refl)
     where
-      step : {ns : List ℕ} → PlanSays s ns → ((n : ℕ) × (ns ≡ 0 ∷ n ∷ [])) ⊎ Placed s ns
+      step : {ns : List ℕ} → PlanSays s ns → ((n : ℕ) × (ns ≡ 0 ∷ n ∷ [])) ⊎ Placed (length s) ns
       step (a-plan xs is) = inl (_, refl)
       step (plan-fault f is) = inr (plan-placed is)
 
@@ -134,12 +127,6 @@ module _ (s p : List ℕ) (r : Checked) (allows : CheckAllows s p r) where
   -- A well-formed plan of exactly its table's jobs, sending away only those that may go.
   module _
       (t : JobTable) (cs : List Chosen) (table : TableIs s (accepted t)) (plan : PlanIs p (accepted (stepsFor cs))) (of : PlanOf (t .jobs) cs) where
-    answered : r ≡ timed (t .deadline) cs
-    unfolding checkPlan
-    answered =
-        allows ∙ (ap (afterTable p) (table-read s (accepted t) table) ∙
-        (ap (afterPlan t) (plan-read p (accepted (stepsFor cs)) plan) ∙ plan-judged t (table .0) cs of))
-
     -- what it is told, and what that means
     abbrev OnTimeSaid : Checked → Type 0
     OnTimeSaid c = (checkedSays c ≡ 0 ∷ lastFrom 0 cs ∷ busy cs ∷ []) × RunsOnTime (t .deadline) cs
@@ -148,12 +135,12 @@ module _ (s p : List ℕ) (r : Checked) (allows : CheckAllows s p r) where
     LateSaid c = (checkedSays c ≡ 11 ∷ []) × ¬ RunsOnTime (t .deadline) cs
 
     one-of : OnTimeSaid r ⊎ LateSaid r
-    one-of = subst (λ (c : Checked). OnTimeSaid c ⊎ LateSaid c) (sym answered) (step (leb (lastFrom 0 cs) (t .deadline)) refl)
+    one-of =
+        subst (λ (c : Checked). OnTimeSaid c ⊎ LateSaid c) (sym (allows ∙ plan-checked s p t cs table plan of)) (step (timed-is (t .deadline) cs))
       where
-        step : (b : Bool) → leb (lastFrom 0 cs) (t .deadline) ≡ b → let c = cond b (Passes (lastFrom 0 cs) (busy cs)) (Fails Late) in OnTimeSaid c ⊎ LateSaid c
-        step true e = inl (refl, fits-iff-runs (t .deadline) cs .0 (fits-last (t .deadline) 0 cs .1 (leb-true _ _ e)))
-        step false e =
-            inr (refl, λ h. omega (arith, leb-false (lastFrom 0 cs) (t .deadline) e, fits-last (t .deadline) 0 cs .0 (fits-iff-runs (t .deadline) cs .1 h)))
+        step : {c : Checked} → Timed (t .deadline) cs c → OnTimeSaid c ⊎ LateSaid c
+        step (on-time runs) = inl (refl, runs)
+        step (too-late out) = inr (refl, λ runs. out (runs-full (t .deadline) cs runs))
 
     -- passes exactly when every permitted run is on time
     pub pass-iff-runs : (checkedSays r ≡ 0 ∷ lastFrom 0 cs ∷ busy cs ∷ []) ↔ RunsOnTime (t .deadline) cs

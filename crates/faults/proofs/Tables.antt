@@ -170,7 +170,7 @@ frame-reads D more =
     opened FrameRefused (λ (u : Unit {0}). deadlineAt s) frameOnly s 0 (sym frame-form) (omega arith) tt refl (omega arith) ∙
     simp (word-whole D)
 
-table-flat : (D : ℕ) (js : List Job) → tableBytes (record { deadline = D; jobs = js }) ≡ frameBytes D ++ flatMap jobBytes js ++ (0x1F ∷ [])
+pub table-flat : (D : ℕ) (js : List Job) → tableBytes (record { deadline = D; jobs = js }) ≡ frameBytes D ++ flatMap jobBytes js ++ (0x1F ∷ [])
 unfolding tableBytes
 table-flat D js = ap (λ (l : List ℕ). frameBytes D ++ l) (jobs-flat js)
 

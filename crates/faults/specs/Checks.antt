@@ -4,6 +4,7 @@ use Prim.Native.Nat.{ℕ, _≤_}
 use mathlib.Core.Path.{_≡_}
 use mathlib.Core.Bool.{true, false}
 use mathlib.Core.List.{List, [], _∷_, _++_, map, List·Memᴰ, List·Permᴰ}
+use lib.ListN.{length}
 use Rattle.model.specs.declared.Job.{Job}
 use Rattle.model.specs.Lists.{All}
 use Rattle.model.specs.Timetable.{Chosen, Allowed, isEither, span, wait}
@@ -73,9 +74,9 @@ pub record Passed (s p figures : List ℕ) : Type 0 where
   pub runs : RunsOnTime (t .deadline) cs
   pub says : figures ≡ lastFrom 0 cs ∷ busy cs ∷ []
 
--- which numbers there are: of a pass; of a fault in the table or in the plan; of a plan that does not fit its table
+-- which numbers there are: of a pass; of a fault in the table or in the plan, placed in it or at its length; of a plan that does not fit its table
 pub data CheckNumbers (s p : List ℕ) (ns : List ℕ) : Type 0 where
   of-pass : (last busy : ℕ) → ns ≡ 0 ∷ last ∷ busy ∷ [] → CheckNumbers s p ns
-  of-table : Placed s ns → CheckNumbers s p ns
-  of-plan : Placed p ns → CheckNumbers s p ns
+  of-table : Placed (length s) ns → CheckNumbers s p ns
+  of-plan : Placed (length p) ns → CheckNumbers s p ns
   of-misfit : (n : ℕ) → 8 ≤ n → n ≤ 11 → ns ≡ n ∷ [] → CheckNumbers s p ns

@@ -98,11 +98,11 @@ pub data PlanSays (s : List ℕ) : List ℕ → Type 0 where
   a-plan : (xs : List Step) → PlanIs s (accepted xs) → PlanSays s (0 ∷ length xs ∷ [])
   plan-fault : (f : Refusal) → PlanFault s f → PlanSays s (refusalSays f)
 
--- "1 to 6 return number and place": the numbers of a fault, whose place is in the file or is its length
-pub record Placed (s ns : List ℕ) : Type 0 where
+-- "1 to 6 return number and place": the numbers of a fault, at a place of at most `most`
+pub record Placed (most : ℕ) (ns : List ℕ) : Type 0 where
   pub number : ℕ
   pub place : ℕ
   pub says : ns ≡ number ∷ place ∷ []
   pub low : 1 ≤ number
   pub high : number ≤ 6
-  pub within : place ≤ length s
+  pub within : place ≤ most

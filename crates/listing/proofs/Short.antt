@@ -25,8 +25,12 @@ use Rattle.table.proofs.Accepted.{accepted-good}
 use Rattle.planner.proofs.Orders.{free-many}
 use Rattle.text.specs.Decimals.{decimal}
 use Rattle.text.proofs.Decimals.{few-digits}
-use Rattle.listing.specs.Listing.{frameWord, jobsWord, busyWord, lastWord, choiceWord, jobLine, pairLine, jobLines, planText, refusedText, foundText, outcomeText, textOf, roomForText}
-use Rattle.listing.proofs.Places.{refused-at, accepted-ids}
+use Rattle.listing.specs.Listing.{frameWord, jobsWord, busyWord, lastWord, choiceWord, jobLine, pairLine, jobLines, planText, refusedText, foundText}
+use Rattle.listing.specs.Listing.{outcomeText, textOf, roomForText}
+use Rattle.faults.specs.Faults.{Byte}
+use Rattle.faults.proofs.Tables.{table-is}
+use Rattle.faults.proofs.Numbers.{table-near}
+use Rattle.listing.proofs.Places.{accepted-ids}
 
 pair-length :
     (first : List ℕ) (a : ℕ) (second : List ℕ) (b : ℕ) →
@@ -104,15 +108,21 @@ none-short : length (refusedText (refusalSays None)) ≤ roomForText
 unfolding refusedText
 none-short = simp length-append (omega (arith, few-digits 0 7 (omega arith)))
 
+all-bytes : (s : List ℕ) → ((i : ℕ) → getD s i 0 < 256) → All Byte s
+all-bytes [] h = tt
+all-bytes (b ∷ s) h = (h 0, all-bytes s (λ i. h (suc i)))
+
 module _ (s : List ℕ) (bytes : (i : ℕ) → getD s i 0 < 256) where
-  found-short : (t : JobTable) → readTable s ≡ accepted t → (o : Option (List Chosen)) → free mostJobs (t .deadline) (t .jobs) ≡ o → length (foundText t o) ≤ roomForText
+  found-short :
+      (t : JobTable) → readTable s ≡ accepted t → (o : Option (List Chosen)) → free mostJobs (t .deadline) (t .jobs) ≡ o → length (foundText t o) ≤ roomForText
   found-short t e none q = none-short
   found-short t e (some xs) q =
       let good = accepted-good s t e in
       let b = free-best mostJobs (t .jobs) (good .few) (t .deadline) xs q in
       let cs = b .0 in
       let c = b .1 .choice in
-      let ids : All (λ (x : Chosen). x .job .id < 256) cs = all-of-map (λ (x : Chosen). x .job) (λ (j : Job). j .id < 256) cs (subst (All _) (sym (c .each)) (accepted-ids s t bytes e)) in
+      let ids : All (λ (x : Chosen). x .job .id < 256) cs =
+      all-of-map (λ (x : Chosen). x .job) (λ (j : Job). j .id < 256) cs (subst (All _) (sym (c .each)) (accepted-ids s t bytes e)) in
       plan-short t xs (good .high) (good .few) (free-many (t .deadline) (t .jobs) xs b)
       (subst (All _) (sym (b .2)) (all-perm (λ (x : Chosen). x .job .id < 256) (Permᴰ·symm (perm-plan cs (c .allowed))) ids))
       (subst (Fits (t .deadline) 0) (sym (b .2)) (b .1 .workable))
@@ -124,7 +134,5 @@ module _ (s : List ℕ) (bytes : (i : ℕ) → getD s i 0 < 256) where
       step : (o : Outcome JobTable) → readTable s ≡ o → length (outcomeText o) ≤ roomForText
       step (accepted t) e = found-short t e (free mostJobs (t .deadline) (t .jobs)) refl
       step (refused f) e =
-          let a = refused-at s f e in
-          let low = a .low in
-          let near = a .near in
-          rw (a .says) (refused-short (a .number) (a .place) (omega arith) (omega arith))
+          let a = table-near (table-is s (all-bytes s bytes) (refused f) .0 e) in
+          rw (a .says) (refused-short (a .number) (a .place) (omega (arith, a .high)) (omega (arith, a .within)))
