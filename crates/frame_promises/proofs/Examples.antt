@@ -29,7 +29,9 @@ abbrev upTo : ℕ → List Call → List Call
 upTo time rest = begin table plan 3 ∷ event E.Next ∷ event (E.SpanEnd 7 5 one) ∷ event (E.SpanEnd 8 25 one) ∷ event (E.Return 3 7 time one) ∷ rest
 
 abbrev asks : List Call
-asks = event (E.Read 7) ∷ event (E.Read 8) ∷ event (E.Read 9) ∷ event E.Next ∷ event (E.Return 3 7 4001 one) ∷ event (E.Return 2 7 4001 one) ∷ begin table plan 4 ∷ []
+asks =
+    event (E.Read 7) ∷ event (E.Read 8) ∷ event (E.Read 9) ∷ event E.Next ∷ event (E.Return 3 7 4001 one) ∷ event
+    (E.Return 2 7 4001 one) ∷ begin table plan 4 ∷ []
 
 -- what is answered up to the return
 abbrev first : List Said

@@ -28,8 +28,10 @@ use Rattle.frame.specs.Run.{Call, begin, event}
 use Rattle.frame.specs.declared.Event.the-variants as E
 use Rattle.frame.proofs.Laws.{false-true}
 use Rattle.frame.proofs.Passed.{Passed}
-use Rattle.frame_promises.specs.History.{Turn, Report, Last, History, idle, opened, closed, done, onClock, spanEnds, fresh, reads, reply, since, spanEnded, without, accepts, isAccepted, told, reportOf}
-use Rattle.frame_promises.specs.Own.{Doing, doingAt, idAt, awayAt, valueAt, spanTime, backTime, Quiet, asks-next, asks-read, asks-begin, other-number, is-refused, spanCall, backCall}
+use Rattle.frame_promises.specs.History.{Turn, Report, Last, History, idle, opened, closed, done, onClock, spanEnds, fresh, reads, reply}
+use Rattle.frame_promises.specs.History.{since, spanEnded, without, accepts, isAccepted, told, reportOf}
+use Rattle.frame_promises.specs.Own.{Doing, doingAt, idAt, awayAt, valueAt, spanTime, backTime, Quiet, asks-next, asks-read, asks-begin}
+use Rattle.frame_promises.specs.Own.{other-number, is-refused, spanCall, backCall}
 use Rattle.frame_promises.proofs.Laws.{used-head, used-tail, without-gone, without-other, report-same, report-other, in-table}
 
 module _ (number : ℕ) (t : JobTable) (xs : List Step) (p : Passed t xs) (ds : List Doing)
@@ -216,7 +218,9 @@ module _ (number : ℕ) (t : JobTable) (xs : List Step) (p : Passed t xs) (ds : 
 
     -- ---- a turn between
 
-    unchanged : (u : Turn) → accepts (opened b) (u .call) ≡ opened b → (w : Bool) → isAccepted (u .said) ≡ w → cond w (accepts (opened b) (u .call)) (opened b) ≡ opened b
+    unchanged :
+        (u : Turn) → accepts (opened b) (u .call) ≡ opened b → (w : Bool) → isAccepted (u .said) ≡ w →
+        cond w (accepts (opened b) (u .call)) (opened b) ≡ opened b
     unchanged u e true a = e
     unchanged u e false a = refl
 

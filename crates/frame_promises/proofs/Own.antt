@@ -41,7 +41,8 @@ use Rattle.frame_promises.specs.Own.{MayBegin, Planned, Doing, runOf, no
 use Rattle.frame_promises.specs.Own.{Plays, over, quiet, spans, backs, AllDone, Answers, OwnValues, OnlyReads, EachOwn}
 use Rattle.frame_promises.proofs.Replies.{Replied, replied, reply-told}
 use Rattle.frame_promises.proofs.Begins.{begin-iff}
-use Rattle.frame_promises.proofs.Going.{Going, few-ended, span-goes, back-goes, quiet-goes, Kept, Ended, all-ended, own-read, own-close, shut, kept-shut, begun-goes}
+use Rattle.frame_promises.proofs.Going.{Going, few-ended, span-goes, back-goes, quiet-goes, Kept, Ended, all-ended, own-read, own-close, shut}
+use Rattle.frame_promises.proofs.Going.{kept-shut, begun-goes}
 
 member-at : {d : Doing} {ds : List Doing} → List·Memᴰ d ds → (k : ℕ) × (k < length ds) × (doingAt ds k ≡ d)
 member-at (List·Memᴰ·head e) = (0, omega arith, sym e)
@@ -235,7 +236,8 @@ module _ (number : ℕ) (t : JobTable) (xs : List Step) (p : Passed t xs) (ds : 
 
 -- ---- own value
 
-after-begin : (before : List Turn) (c : Turn) (us : List Turn) → history idle (before ++ (c ∷ us)) ≡ history (told (history idle before) (c .call) (c .said)) us
+after-begin :
+    (before : List Turn) (c : Turn) (us : List Turn) → history idle (before ++ (c ∷ us)) ≡ history (told (history idle before) (c .call) (c .said)) us
 unfolding history
 after-begin before c us = history-append idle before (c ∷ us)
 
@@ -271,7 +273,8 @@ own-value {table} {plan} {t} {cs} w before number may ds run finite s {us} q tur
     let opens = begun-is w before number s is in
     let g = begun-goes number t (w .steps) p ds counted steps in
     let r = runs number t (w .steps) p ds counted steps fits values q _ g (subst (λ (h : History). Replied h us) opens (replied before (c ∷ us) turns .1)) in
-    let ends = subst (Ends number t (w .steps) p ds counted steps fits values) (sym (after-begin before c us ∙ ap (λ (h : History). history h us) opens)) (r .1) in
+    let ends = subst (Ends number t (w .steps) p ds counted steps fits values)
+    (sym (after-begin before c us ∙ ap (λ (h : History). history h us) opens)) (r .1) in
     let ts = before ++ (c ∷ us) in (
       is,
       r .0,

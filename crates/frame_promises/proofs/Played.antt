@@ -114,9 +114,12 @@ module _ (number : ℕ) (ds : List Doing) where
   Played n home t = (calls : List Call) × ((us : List Turn) → callsOf us ≡ calls → Plays number ds n home t us)
 
   -- the next span ends
-  module _ {n : ℕ} {home : List ℕ} {t : ℕ} {out : List ℕ} (r : Ready n home t out) (inside : n < length ds) (soon : All (λ (k : ℕ). spanTime ds n ≤ backTime ds k) out) where
+  module _ {n : ℕ} {home : List ℕ} {t : ℕ} {out : List ℕ} (r : Ready n home t out) (inside : n < length ds)
+      (soon : All (λ (k : ℕ). spanTime ds n ≤ backTime ds k) out) where
     still : All (Due (n + 1) home (spanTime ds n)) out
-    still = all-map (λ k w. record { ended = omega (arith, w .0 .ended); away = w .0 .away; not-back = w .0 .not-back; later = w .1 }) out (all-zip _ _ out (r .due) soon)
+    still =
+        all-map (λ k w. record { ended = omega (arith, w .0 .ended); away = w .0 .away; not-back = w .0 .not-back; later = w .1 }) out
+        (all-zip _ _ out (r .due) soon)
 
     rising : spanTime ds n ≤ spanTime ds (n + 1)
     rising = rw add-one (spans-rise ds n)
@@ -154,7 +157,8 @@ module _ (number : ℕ) (ds : List Doing) where
         go : Played (n + 1) home (spanTime ds n) → Played n home t
         go p = (
           spanCall ds n (valueAt ds n) ∷ p .0,
-          λ us e. first-turn (Plays number ds n home t) us (spanCall ds n (valueAt ds n)) (p .0) e (λ v vs is rest. spans is inside (r .next inside) (λ e. refl) (p .1 vs rest)),
+          λ us e. first-turn (Plays number ds n home t) us (spanCall ds n (valueAt ds n)) (p .0) e
+              (λ v vs is rest. spans is inside (r .next inside) (λ e. refl) (p .1 vs rest)),
         )
 
         step : (away : Bool) → awayAt ds n ≡ away → Played n home t
@@ -162,7 +166,8 @@ module _ (number : ℕ) (ds : List Doing) where
         step false e = go (on out (stays e))
 
   -- the first of those that are away comes back
-  module _ {n : ℕ} {home : List ℕ} {t : ℕ} {x : ℕ} {xs : List ℕ} (r : Ready n home t (x ∷ xs)) (w : First x xs) (soon : n < length ds → backTime ds (w .at) ≤ spanTime ds n) where
+  module _ {n : ℕ} {home : List ℕ} {t : ℕ} {x : ℕ} {xs : List ℕ} (r : Ready n home t (x ∷ xs)) (w : First x xs)
+      (soon : n < length ds → backTime ds (w .at) ≤ spanTime ds n) where
     due-first : All (Due n home t) (w .at ∷ w .others)
     due-first = all-perm (Due n home t) (w .same) (r .due)
 

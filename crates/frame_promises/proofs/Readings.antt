@@ -22,9 +22,11 @@ use Rattle.judge.proofs.Jobs.{member-all}
 use Rattle.frame.specs.Step.{Said, says}
 use Rattle.frame.specs.Run.{Call, begin, event}
 use Rattle.frame.specs.declared.Event.the-variants as E
-use Rattle.frame_promises.specs.History.{Turn, Report, Last, History, idle, opened, closed, refuse, fresh, reading, readIn, reads, reply, isAccepted, told, history, reportOf}
+use Rattle.frame_promises.specs.History.{Turn, Report, Last, History, idle, opened, closed, refuse, fresh, reading, readIn, reads, reply}
+use Rattle.frame_promises.specs.History.{isAccepted, told, history, reportOf}
 use Rattle.frame_promises.specs.Runs.{FromIdle}
-use Rattle.frame_promises.specs.Readings.{NoBegin, LastBegin, Reported, Unreported, IsClosed, Has, ReadSays, never-begun, no-job, is-fresh, is-pending, is-late, is-missing, Behind}
+use Rattle.frame_promises.specs.Readings.{NoBegin, LastBegin, Reported, Unreported, IsClosed, Has, ReadSays, never-begun, no-job, is-fresh}
+use Rattle.frame_promises.specs.Readings.{is-pending, is-late, is-missing, Behind}
 use Rattle.frame_promises.proofs.Since.{Since, Traced}
 use Rattle.frame_promises.proofs.Replies.{reads-told, traced}
 
@@ -115,7 +117,7 @@ module _ {ts : List Turn} {b : Last} (id : ℕ) where
       {shut : Bool} (w : Since ts b shut) → Has (b .table .jobs) id → (r : Report) → reportOf (b .reports) id ≡ some r → (q : Bool) →
       leb (r .time) (b .table .deadline) ≡ q → ReadSays ts id (cond q (fresh (b .number) (r .value)) (says (0 ∷ 2 ∷ [])))
   timed-says w has r e true early = is-fresh (w .begun) has (w .made id r e) (leb-true _ _ early)
-  timed-says w has r e false late = is-late (w .begun) has (w .made id r e) (leb-false _ _ late)
+  timed-says w has r e false late = is-late (w .begun) has (w .made id r e) (omega (arith, leb-false (r .time) (b .table .deadline) late))
 
   reading-says :
       (shut : Bool) (w : Since ts b shut) → Has (b .table .jobs) id → (o : Option Report) → reportOf (b .reports) id ≡ o →
@@ -130,7 +132,8 @@ module _ {ts : List Turn} {b : Last} (id : ℕ) where
 
   -- ---- and nothing else does
 
-  module _ {n : ℕ} {jobs : JobTable} {steps : List plan.Step} {since : List Turn} {shut : Bool} (w : Since ts b shut) (l : LastBegin ts n jobs steps since) where
+  module _ {n : ℕ} {jobs : JobTable} {steps : List plan.Step} {since : List Turn} {shut : Bool} (w : Since ts b shut)
+      (l : LastBegin ts n jobs steps since) where
     same : Same n (b .number) jobs (b .table) steps (w .steps) since (w .later)
     same = same-begin l (w .begun)
 
@@ -189,7 +192,8 @@ only-of ts (closed b) w id q r = only-says id true w q r
 
 -- ---- the promises
 
-module _ (before : List Turn) (id : ℕ) (r : Said) (after : List Turn) (run : FromIdle (before ++ (record { call = event (E.Read id); said = r } ∷ after))) where
+module _ (before : List Turn) (id : ℕ) (r : Said) (after : List Turn)
+    (run : FromIdle (before ++ (record { call = event (E.Read id); said = r } ∷ after))) where
   -- a read says exactly what the turns before it tell
   pub reads-says : (q : Said) → (r ≡ q) ↔ ReadSays before id q
   reads-says q =

@@ -29,7 +29,8 @@ use Rattle.judge.specs.Check.{jobOf, afterPlan, afterTable, checkPlan}
 use Rattle.frame.specs.Finite.{finite?}
 use Rattle.frame.specs.Sound as S
 use Rattle.frame.specs.Sound.{entryAt, entryId, open?, begun?, ready?}
-use Rattle.frame.specs.Step.{Said, says, answerSays, refused, judge, moved, whereIs, panelEntry, spanAt, spanStep, backAt, backTo, backStep, closeStep, readingOf, readAt, readOf, nextOf}
+use Rattle.frame.specs.Step.{Said, says, answerSays, refused, judge, moved, whereIs, panelEntry, spanAt, spanStep, backAt, backTo, backStep}
+use Rattle.frame.specs.Step.{closeStep, readingOf, readAt, readOf, nextOf}
 use Rattle.frame.specs.Step as step
 use Rattle.frame.specs.Begin.{stepsIn, begun, mayOpen, beginChecked, beginRead, beginStep}
 use Rattle.frame.specs.Run.{Call, begin, event, stepOf}
@@ -48,7 +49,9 @@ use Rattle.frame.specs.declared.Step.{Step}
 use Rattle.frame.proofs.Laws.{false-true, first-below, first-has, first-some}
 use Rattle.frame.proofs.Passed.{Passed, passed}
 use Rattle.frame.proofs.Reached.{Fine}
-use Rattle.frame_promises.specs.History.{Report, Last, History, idle, opened, closed, done, refuse, begins, nexts, onClock, valued, spanEnds, returns, closes, reading, readIn, reads, inOpen, inClosed, reply, opens, accepts, isAccepted, told, reportOf}
+use Rattle.frame_promises.specs.History.{Report, Last, History, idle, opened, closed, done, refuse, begins, nexts, onClock, valued, spanEnds}
+use Rattle.frame_promises.specs.History.{returns, closes, reading, readIn, reads, inOpen, inClosed, reply, opens, accepts, isAccepted, told}
+use Rattle.frame_promises.specs.History.{reportOf}
 use Rattle.frame_promises.proofs.Laws.{refused-told, in-table, not-in-table, drop-all}
 use Rattle.frame_promises.proofs.Since.{Clear}
 use Rattle.frame_promises.proofs.Agrees.{Stood, Agrees, Tells, silent, goes-out, has-value, comes-back, is-closed, begun-agrees}
@@ -185,7 +188,9 @@ module _ (f : Frame) (fine : Fine f) where
             (λ _. (refl, rw (e, w) (is, has-value f fine o b a h t v xs rest (x .id) named)))
             (λ _. refuses C R.Value))
 
-        on-it : panelEntry f .away ≡ x .away → Fits C H (cond (eqb (panelEntry f .id) id) (spanAt f t v (panelEntry f .away)) (refused R.Who f)) (spanEnds (x ∷ xs) id v)
+        on-it :
+            panelEntry f .away ≡ x .away →
+            Fits C H (cond (eqb (panelEntry f .id) id) (spanAt f t v (panelEntry f .away)) (refused R.Who f)) (spanEnds (x ∷ xs) id v)
         on-it away =
             both C H (eqb (panelEntry f .id) id) (eqb (x .id) id) (ap (λ (i : ℕ). eqb i id) named) _ _ _ _
             (λ _. span-at (panelEntry f .away) (sym away)) (λ _. refuses C R.Who)
@@ -212,7 +217,7 @@ module _ (f : Frame) (fine : Fine f) where
       taken :
           (i : ℕ) → i < f .count → entryAt (f .entries) i .id ≡ id →
           Fits B H (step.done (moved f i t (f .next) (judge v (f .number) t (f .deadline)))) done
-      taken i h named = (refl, (is, comes-back f fine o b a i h id t v named))
+      taken i h named = (refl, comes-back f fine o b a is i h n id t v named)
 
       -- one that is not out is refused WHO
       heard-of :
@@ -264,7 +269,7 @@ module _ (f : Frame) (fine : Fine f) where
     open-fits (E.SpanEnd id t v) = span-fits id t v
     open-fits (E.Return n id t v) = back-fits n id t v
     open-fits (E.Close t) = close-fits t
-    open-fits (E.Read id) = asked (readOf f id) _ (read-is b a (says (0 ∷ 1 ∷ [])) (rw is) id (begun-is Open is)) (E.Read id) refl
+    open-fits (E.Read id) = asked (readOf f id) _ (read-is b a _ (rw is) id (begun-is Open is)) (E.Read id) refl
 
     -- of no job that is to come or out has anything been heard
     next-silent : (x : plan.Step) (xs : List plan.Step) → b .to-come ≡ x ∷ xs → reportOf (b .reports) (x .id) ≡ none
@@ -398,5 +403,5 @@ module _ (f : Frame) (fine : Fine f) where
   fits (opened b) a (begin table s n) = open-begin b a table s n
   fits (opened b) a (event e) = open-fits b (a .0) (a .1) e
   fits (closed b) a (begin table s n) =
-      begin-fits (closed b) a table s n (ltb (b .number) n) (rw (a .0, a .1 .numbered)) (ready-is Closed (a .0))
+      begin-fits (closed b) a table s n _ (rw (a .0, a .1 .numbered)) (ready-is Closed (a .0))
   fits (closed b) a (event e) = closed-fits b a e
