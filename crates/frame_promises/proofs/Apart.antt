@@ -17,7 +17,7 @@ use Rattle.plan.specs.declared.Step as plan
 use Rattle.plan.specs.Plans.{stepId, readPlan}
 use Rattle.judge.specs.Check.{jobOf}
 use Rattle.frame.specs.Finite.{finite?}
-use Rattle.frame.specs.Step.{Said, says}
+use Rattle.frame.specs.Step.{Reply, says}
 use Rattle.frame.specs.Run.{Call, begin, event}
 use Rattle.frame.specs.declared.Event.{Event}
 use Rattle.frame.specs.declared.Event.the-variants as E
@@ -83,11 +83,11 @@ module _ (job : ℕ) where
       step true e on = heard r q (t .0) (eqb-true (r .job) id e)
       step false e on = on
 
-  module _ (b : Last) (unheard : Said) (id : ℕ) where
-    abbrev inTime : Bool → Float → Said
+  module _ (b : Last) (unheard : Reply) (id : ℕ) where
+    abbrev inTime : Bool → Float → Reply
     inTime w v = cond w (fresh (b .number) v) (says (0 ∷ 2 ∷ []))
 
-    abbrev timedSays : ℕ → Float → Said
+    abbrev timedSays : ℕ → Float → Reply
     timedSays t v = inTime (leb t (b .table .deadline)) v
 
     timed : (r q : Report) → Twin r q → r .job ≡ id → (w : Bool) → SameBut job (event (E.Read id)) (inTime w (r .value)) (inTime w (q .value))
@@ -134,7 +134,7 @@ module _ (job : ℕ) where
       Goes c d h g
   as-answered c d h g p e q = record {
     answers = subst (SameBut job c (reply h c)) e same-answer;
-    after = subst (λ (s : Said). Pair (told h c (reply h c)) (told g d s)) e (step (isAccepted (reply h c)) refl);
+    after = subst (λ (s : Reply). Pair (told h c (reply h c)) (told g d s)) e (step (isAccepted (reply h c)) refl);
   }
     where
       step : (w : Bool) → isAccepted (reply h c) ≡ w → Pair (cond w (accepts h c) h) (cond w (accepts g d) g)
@@ -256,8 +256,8 @@ module _ (job : ℕ) where
   all-goes (words.and-turn {t = t} {u = u} a all) h g p (said, r) (told-u, q) =
       let w = goes a h g p in
       words.and-turn
-      (subst (λ (x : Said). SameBut job (t .call) x (u .said)) (sym said)
-      (subst (λ (x : Said). SameBut job (t .call) (reply h (t .call)) x) (sym told-u) (w .answers)))
+      (subst (λ (x : Reply). SameBut job (t .call) x (u .said)) (sym said)
+      (subst (λ (x : Reply). SameBut job (t .call) (reply h (t .call)) x) (sym told-u) (w .answers)))
       (all-goes all (told h (t .call) (t .said)) (told g (u .call) (u .said)) (rw (said, told-u) (w .after)) r q)
 
 -- the promise

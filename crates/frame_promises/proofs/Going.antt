@@ -23,7 +23,7 @@ use Rattle.plan.specs.Plans.{stepId, noStep}
 use Rattle.draft.specs.Drafts.{stepOf}
 use Rattle.judge.specs.Check.{jobOf}
 use Rattle.frame.specs.Finite.{finite?}
-use Rattle.frame.specs.Step.{Said, says}
+use Rattle.frame.specs.Step.{Reply, says}
 use Rattle.frame.specs.Run.{Call, begin, event}
 use Rattle.frame.specs.declared.Event.the-variants as E
 use Rattle.frame.proofs.Laws.{false-true}
@@ -242,7 +242,7 @@ module _ (number : ℕ) (t : JobTable) (xs : List Step) (p : Passed t xs) (ds : 
     tabled : b .table ≡ t
     holds : (k : ℕ) → k < length ds → Holds (b .reports) k
 
-  pub own-read : (b : Last) → Kept b → (unreported : Said) (k : ℕ) → k < length ds → reads b unreported (idAt ds k) ≡ fresh number (valueAt ds k)
+  pub own-read : (b : Last) → Kept b → (unreported : Reply) (k : ℕ) → k < length ds → reads b unreported (idAt ds k) ≡ fresh number (valueAt ds k)
   own-read b w unreported k h =
       let j = p .named k (omega (arith, counted)) in
       let i = in-table (t .jobs) (idAt ds k) (j .at) (j .inside) (j .same-id ∙ id-is k) in

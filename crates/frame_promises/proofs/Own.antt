@@ -30,7 +30,7 @@ use Rattle.judge.specs.Check.{checkedSays, lacksOne, timed, afterPlan, checkPla
 use Rattle.judge.proofs.Jobs.{member-all, perm-members}
 use Rattle.judge.proofs.Runs.{pass-iff-runs, exactly-its-jobs}
 use Rattle.frame.specs.Finite.{finite?}
-use Rattle.frame.specs.Step.{Said, says}
+use Rattle.frame.specs.Step.{Reply, says}
 use Rattle.frame.specs.Begin.{stepsIn}
 use Rattle.frame.specs.Run.{Call, begin, event}
 use Rattle.frame.specs.declared.Event.the-variants as E
@@ -161,7 +161,7 @@ module _ (number : ℕ) (t : JobTable) (xs : List Step) (p : Passed t xs) (ds : 
   Ends (closed b) = ⊥
 
   -- a turn whose call and answer are known
-  next-is : (b : Last) (u : Turn) (c : Call) (s : Said) → u .call ≡ c → u .said ≡ s → told (opened b) (u .call) (u .said) ≡ told (opened b) c s
+  next-is : (b : Last) (u : Turn) (c : Call) (s : Reply) → u .call ≡ c → u .said ≡ s → told (opened b) (u .call) (u .said) ≡ told (opened b) c s
   next-is b u c s e q = rw (e, q)
 
   runs :
@@ -222,7 +222,7 @@ module _ (number : ℕ) (t : JobTable) (xs : List Step) (p : Passed t xs) (ds : 
       close-own : Answers ts (event (E.Close time)) done
       close-own r rest run = reply-told ts (record { call = event (E.Close time); said = r }) rest run ∙ close-now time late (history idle ts) w
 
-      closed-own : (s : Said) (us : List Turn) → OnlyReads us → OwnValues number ds (ts ++ (record { call = event (E.Close time); said = s } ∷ us))
+      closed-own : (s : Reply) (us : List Turn) → OnlyReads us → OwnValues number ds (ts ++ (record { call = event (E.Close time); said = s } ∷ us))
       unfolding history
       closed-own s us only k h r rest run =
           let c : Turn = record { call = event (E.Close time); said = s } in
@@ -231,7 +231,7 @@ module _ (number : ℕ) (t : JobTable) (xs : List Step) (p : Passed t xs) (ds : 
           let accepted : s ≡ done = close-own s (us ++ (u ∷ rest)) shut-run in
           let is = reply-told (ts ++ (c ∷ us)) u rest run in
           is ∙ ap (λ (h : History). reply h (u .call)) (history-append idle ts (c ∷ us)) ∙
-          ap (λ (x : Said). reply (history (told (history idle ts) (event (E.Close time)) x) us) (u .call)) accepted ∙
+          ap (λ (x : Reply). reply (history (told (history idle ts) (event (E.Close time)) x) us) (u .call)) accepted ∙
           reads-then time late (history idle ts) w us only k h
 
 -- ---- own value
@@ -243,7 +243,7 @@ after-begin before c us = history-append idle before (c ∷ us)
 
 -- the accepted begin opens the frame of its bytes
 begun-is :
-    {table plan : List ℕ} {t : JobTable} {cs : List Chosen} (w : Planned table plan t cs) (before : List Turn) (number : ℕ) (s : Said) → s ≡ done →
+    {table plan : List ℕ} {t : JobTable} {cs : List Chosen} (w : Planned table plan t cs) (before : List Turn) (number : ℕ) (s : Reply) → s ≡ done →
     told (history idle before) (begin table plan number) s ≡
     opened (record { number = number; table = t; to-come = w .steps; out = []; reports = []; clock = 0 })
 begun-is w before number s e = rw (e, w .is-table, w .is-plan)
@@ -255,7 +255,7 @@ pub own-value :
     {table plan : List ℕ} {t : JobTable} {cs : List Chosen} → Planned table plan t cs →
     (before : List Turn) (number : ℕ) → MayBegin before table plan number →
     (ds : List Doing) → RunOf cs (runOf ds) → All (λ (d : Doing). finite? (d .value) ≡ true) ds →
-    (s : Said) {us : List Turn} (q : Plays number ds 0 [] 0 us) →
+    (s : Reply) {us : List Turn} (q : Plays number ds 0 [] 0 us) →
     FromIdle (before ++ (record { call = begin table plan number; said = s } ∷ us)) →
     (s ≡ done) × AllDone q × EachOwn number t ds (before ++ (record { call = begin table plan number; said = s } ∷ us))
 own-value {table} {plan} {t} {cs} w before number may ds run finite s {us} q turns =

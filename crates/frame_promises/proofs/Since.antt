@@ -25,7 +25,7 @@ use Rattle.judge.specs.declared.Checked.the-variants.{Passes, Fails}
 use Rattle.judge.specs.Check.{afterPlan, afterTable, checkPlan}
 use Rattle.judge.proofs.Jobs.{member-all, perm-members}
 use Rattle.frame.specs.Finite.{finite?}
-use Rattle.frame.specs.Step.{Said, says}
+use Rattle.frame.specs.Step.{Reply, says}
 use Rattle.frame.specs.Run.{Call, begin, event}
 use Rattle.frame.specs.declared.Event.{Event}
 use Rattle.frame.specs.declared.Event.the-variants as E
@@ -222,11 +222,11 @@ module _ {ts : List Turn} {b : Last} {shut : Bool} (w : Since ts b shut) (t : Tu
 
 -- ---- what an accepted call shows
 
-pub refused-else : (w : Bool) (p q : Said) → isAccepted q ≡ false → isAccepted (cond w p q) ≡ true → (w ≡ true) × (isAccepted p ≡ true)
+pub refused-else : (w : Bool) (p q : Reply) → isAccepted q ≡ false → isAccepted (cond w p q) ≡ true → (w ≡ true) × (isAccepted p ≡ true)
 refused-else true p q un a = (refl, a)
 refused-else false p q un a = absurd (false-true (sym un ∙ a))
 
-else-only : (w : Bool) (p q : Said) → isAccepted p ≡ false → isAccepted (cond w p q) ≡ true → isAccepted q ≡ true
+else-only : (w : Bool) (p q : Reply) → isAccepted p ≡ false → isAccepted (cond w p q) ≡ true → isAccepted q ≡ true
 else-only true p q un a = absurd (false-true (sym un ∙ a))
 else-only false p q un a = a
 

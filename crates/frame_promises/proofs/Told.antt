@@ -29,7 +29,7 @@ use Rattle.judge.specs.Check.{jobOf, afterPlan, afterTable, checkPlan}
 use Rattle.frame.specs.Finite.{finite?}
 use Rattle.frame.specs.Sound as S
 use Rattle.frame.specs.Sound.{entryAt, entryId, open?, begun?, ready?}
-use Rattle.frame.specs.Step.{Said, says, answerSays, refused, judge, moved, whereIs, panelEntry, spanAt, spanStep, backAt, backTo, backStep}
+use Rattle.frame.specs.Step.{Reply, says, answerSays, refused, judge, moved, whereIs, panelEntry, spanAt, spanStep, backAt, backTo, backStep}
 use Rattle.frame.specs.Step.{closeStep, readingOf, readAt, readOf, nextOf}
 use Rattle.frame.specs.Step as step
 use Rattle.frame.specs.Begin.{stepsIn, begun, mayOpen, beginChecked, beginRead, beginStep}
@@ -57,17 +57,17 @@ use Rattle.frame_promises.proofs.Since.{Clear}
 use Rattle.frame_promises.proofs.Agrees.{Stood, Agrees, Tells, silent, goes-out, has-value, comes-back, is-closed, begun-agrees}
 
 -- a step fits a reply: it is what the answer says, and the record after it is that of the history after it
-abbrev pub Fits : Call → History → Step → Said → Type 0
+abbrev pub Fits : Call → History → Step → Reply → Type 0
 Fits c h s r = (answerSays (s .answer) ≡ r) × Tells (s .frame) (told h c r)
 
 module _ (c : Call) (h : History) where
   -- the same test of a step and of a reply
-  same : (w : Bool) (x y : Step) (p q : Said) → (w ≡ true → Fits c h x p) → (w ≡ false → Fits c h y q) → Fits c h (cond w x y) (cond w p q)
+  same : (w : Bool) (x y : Step) (p q : Reply) → (w ≡ true → Fits c h x p) → (w ≡ false → Fits c h y q) → Fits c h (cond w x y) (cond w p q)
   same true x y p q f g = f refl
   same false x y p q f g = g refl
 
   both :
-      (w z : Bool) → w ≡ z → (x y : Step) (p q : Said) → (w ≡ true → Fits c h x p) → (w ≡ false → Fits c h y q) →
+      (w z : Bool) → w ≡ z → (x y : Step) (p q : Reply) → (w ≡ true → Fits c h x p) → (w ≡ false → Fits c h y q) →
       Fits c h (cond w x y) (cond z p q)
   both w z e x y p q f g = rw (← e) (same w x y p q f g)
 
@@ -99,7 +99,7 @@ module _ (f : Frame) (fine : Fine f) where
 
   -- ---- a read
 
-  module _ (b : Last) (a : Agrees f b) (unreported : Said) (says-so : answerSays (Read (step.unreported (f .phase))) ≡ unreported) where
+  module _ (b : Last) (a : Agrees f b) (unreported : Reply) (says-so : answerSays (Read (step.unreported (f .phase))) ≡ unreported) where
     heard :
         (p : Phase) (x : Report) (w : Bool) →
         answerSays (Read (readingOf p (cond w (stands.Held (record { value = x .value; frame = b .number })) stands.Late))) ≡
@@ -142,15 +142,15 @@ module _ (f : Frame) (fine : Fine f) where
     refuses : (c : Call) (r : Refusal) → Fits c H (refused r f) (says (refusalSays r))
     refuses c r = (refl, rw (refused-told H c r) (is, a))
 
-    clock : (c : Call) (t : ℕ) (x : Step) (p : Said) → Fits c H x p → Fits c H (step.onClock f t x) (onClock b t p)
+    clock : (c : Call) (t : ℕ) (x : Step) (p : Reply) → Fits c H x p → Fits c H (step.onClock f t x) (onClock b t p)
     clock c t x p e = both c H (ltb t (f .clock)) (ltb t (b .clock)) (ap (ltb t) (a .clocked)) _ _ _ _ (λ _. refuses c R.Clock) (λ _. e)
 
     -- a call that only asks changes nothing, whatever it is answered
-    unchanged : (c : Call) → accepts H c ≡ H → (r : Said) (w : Bool) → isAccepted r ≡ w → Tells f (cond w (accepts H c) H)
+    unchanged : (c : Call) → accepts H c ≡ H → (r : Reply) (w : Bool) → isAccepted r ≡ w → Tells f (cond w (accepts H c) H)
     unchanged c e r true q = rw e (is, a)
     unchanged c e r false q = (is, a)
 
-    asked : (g : Answer) (r : Said) → answerSays g ≡ r → (e : Event) → accepts H (event e) ≡ H → Fits (event e) H (step.asked f g) r
+    asked : (g : Answer) (r : Reply) → answerSays g ≡ r → (e : Event) → accepts H (event e) ≡ H → Fits (event e) H (step.asked f g) r
     asked g r said e stays = (said, unchanged (event e) stays r (isAccepted r) refl)
 
     -- what is to come, by whether a job is on the panel
@@ -226,7 +226,7 @@ module _ (f : Frame) (fine : Fine f) where
       heard-of i r true = refuses B R.Who
       heard-of i r false = refuses B R.Who
 
-      abbrev backReply : Said
+      abbrev backReply : Reply
       backReply = cond (used (b .out) id) (valued v) (refuse 15)
 
       back-at :
@@ -339,7 +339,7 @@ module _ (f : Frame) (fine : Fine f) where
     abbrev no : open? f ≡ false
     no = open-is Closed (a .0)
 
-    closed-read : (r : Said) (w : Bool) → isAccepted r ≡ w → Tells f (cond w (closed b) (closed b))
+    closed-read : (r : Reply) (w : Bool) → isAccepted r ≡ w → Tells f (cond w (closed b) (closed b))
     closed-read r true e = a
     closed-read r false e = a
 
