@@ -84,7 +84,9 @@ module _ {A : Type 0} (key : A → ℕ) (d : A) (xs : List A) (x : ℕ) where
   first-below k zero i e = absurd (nothing-at i e)
   first-below k (suc n) i e = below-step (eqb (key (getD xs k d)) x) k i n (first key d xs x (k + 1) n) e (first-below (k + 1) n i)
 
-  has-step : (k i : ℕ) (rest : Found) (b : Bool) → eqb (key (getD xs k d)) x ≡ b → cond b (At k) rest ≡ At i → (rest ≡ At i → key (getD xs i d) ≡ x) → key (getD xs i d) ≡ x
+  has-step :
+      (k i : ℕ) (rest : Found) (b : Bool) → eqb (key (getD xs k d)) x ≡ b → cond b (At k) rest ≡ At i → (rest ≡ At i → key (getD xs i d) ≡ x) →
+      key (getD xs i d) ≡ x
   has-step k i rest true t e r = rw (← at-same k i e) (eqb-true _ _ t)
   has-step k i rest false t e r = r e
 
@@ -108,7 +110,8 @@ module _ {A : Type 0} (key : A → ℕ) (d : A) (xs : List A) (x : ℕ) where
   pub first-least : (k n m : ℕ) → first key d xs x k n ≡ At m → (i : ℕ) → k ≤ i → i < m → key (getD xs i d) ≡ x → ⊥
   unfolding first
   first-least k zero m e i p q is = nothing-at m e
-  first-least k (suc n) m e i p q is = least-step k i m (first key d xs x (k + 1) n) (eqb (key (getD xs k d)) x) refl e (λ more g. first-least (k + 1) n m g i (omega arith) q) p q is
+  first-least k (suc n) m e i p q is =
+      least-step k i m (first key d xs x (k + 1) n) (eqb (key (getD xs k d)) x) refl e (λ more g. first-least (k + 1) n m g i (omega arith) q) p q is
 
   -- a position that has the key, and none before it has, is the first
   found-step :
@@ -140,7 +143,9 @@ module _ {A : Type 0} (key : A → ℕ) (d : A) (xs : List A) (x : ℕ) where
   first-some k zero i p q is = absurd (omega arith)
   first-some k (suc n) i p q is = some-step (eqb (key (getD xs k d)) x) refl (λ more. first-some (k + 1) n i more (omega arith) is)
     where
-      some-step : (b : Bool) → eqb (key (getD xs k d)) x ≡ b → (k + 1 ≤ i → (m : ℕ) × (first key d xs x (k + 1) n ≡ At m)) → (m : ℕ) × (cond b (At k) (first key d xs x (k + 1) n) ≡ At m)
+      some-step :
+          (b : Bool) → eqb (key (getD xs k d)) x ≡ b → (k + 1 ≤ i → (m : ℕ) × (first key d xs x (k + 1) n ≡ At m)) →
+          (m : ℕ) × (cond b (At k) (first key d xs x (k + 1) n) ≡ At m)
       some-step true t on = (k, refl)
       some-step false t on =
           elim (eq-or-lt-of-le p) [
@@ -170,7 +175,9 @@ module _ (f : Frame) where
 
   places-fit : okBegun f ≡ true → (k : ℕ) → k < f .count → placeAt (f .order) k < f .count
   unfolding okBegun okAt
-  places-fit e k h = order-below (f .order) (f .count) k (and-left _ _ (at-each 0 (f .count) (and-right (okDeadline (f .deadline)) _ (and-right (okCounts f) _ e)) k (omega arith) (omega arith)))
+  places-fit e k h =
+      order-below (f .order) (f .count) k
+      (and-left _ _ (at-each 0 (f .count) (and-right (okDeadline (f .deadline)) _ (and-right (okCounts f) _ e)) k (omega arith) (omega arith)))
 
 open-in : (p : Phase) (f : Frame) → (okIn p f && isOpen p) ≡ true → okBegun f ≡ true
 open-in Idle f e = absurd (false-true e)

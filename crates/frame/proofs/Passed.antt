@@ -85,9 +85,12 @@ module _ (t : JobTable) (good : GoodTable t) (s : List ℕ) (xs : List plan.Step
       ]
 
   named-of : (cs : List Chosen) → Lists js xs cs → All (λ (x : plan.Step). JobFor js (x .id)) xs
-  named-of cs l = rw (← l .steps) (map-all stepOf (λ (x : plan.Step). JobFor js (x .id)) cs (all-map (λ c e. job-for js (c .job .id) (c .job) e) cs (l .named)))
+  named-of cs l =
+      rw (← l .steps) (map-all stepOf (λ (x : plan.Step). JobFor js (x .id)) cs (all-map (λ c e. job-for js (c .job .id) (c .job) e) cs (l .named)))
 
-  passed-of : (cs : List Chosen) → Lists js xs cs → (b : Bool) → lacksOne js (map stepId xs) ≡ b → cond b (Fails Left) (timed (t .deadline) cs) ≡ Passes last busy → Passed t xs
+  passed-of :
+      (cs : List Chosen) → Lists js xs cs → (b : Bool) → lacksOne js (map stepId xs) ≡ b →
+      cond b (Fails Left) (timed (t .deadline) cs) ≡ Passes last busy → Passed t xs
   passed-of cs l true e p = clash (cc)
   passed-of cs l false e p = record {
     good = good;
@@ -102,7 +105,9 @@ module _ (t : JobTable) (good : GoodTable t) (s : List ℕ) (xs : List plan.Step
   passed-listed (refused r) e p = clash (cc)
   passed-listed (accepted cs) e p = passed-of cs (listed-tells js xs cs e) (lacksOne js (map stepId xs)) refl p
 
-passed-read : (t : JobTable) → GoodTable t → (s : List ℕ) (last busy : ℕ) (o : Outcome (List plan.Step)) → readPlan s ≡ o → afterPlan t o ≡ Passes last busy → Passed t (stepsIn o)
+passed-read :
+    (t : JobTable) → GoodTable t → (s : List ℕ) (last busy : ℕ) (o : Outcome (List plan.Step)) → readPlan s ≡ o → afterPlan t o ≡ Passes last busy →
+    Passed t (stepsIn o)
 passed-read t good s last busy (refused r) e p = clash (cc)
 passed-read t good s last busy (accepted xs) e p = passed-listed t good s xs e last busy (listed (t .jobs) xs) refl p
 

@@ -147,13 +147,19 @@ module _ (n : ℕ) (t : JobTable) (xs : List plan.Step) (p : Passed t xs) where
   order-at k h = filled-at 0 (stepPlace es xs count) count k (p .good .few) h
 
   -- the k-th step's job is found where the order says
+  some-at : (k : ℕ) → k < count → (m : ℕ) × (first entryId none es ((getD xs k noStep) .id) 0 count ≡ At m)
+  some-at k h =
+      let j : JobFor js ((getD xs k noStep) .id) = p .named k (omega (arith, p .enough)) in
+      first-some entryId none es ((getD xs k noStep) .id) 0 count (j .at) (omega arith) (omega (arith, j .inside))
+      (ap entryId (entry-at (j .at) (j .inside)) ∙ j .same-id)
+
+  found-by :
+      (k : ℕ) → k < count → (m : ℕ) → first entryId none es ((getD xs k noStep) .id) 0 count ≡ At m →
+      first entryId none es ((getD xs k noStep) .id) 0 count ≡ At (placeAt order k)
+  found-by k h m e = e ∙ ap At (sym (order-at k h ∙ ap position e))
+
   found-at : (k : ℕ) → k < count → first entryId none es ((getD xs k noStep) .id) 0 count ≡ At (placeAt order k)
-  found-at k h =
-      let id = (getD xs k noStep) .id in
-      let j : JobFor js id = p .named k (omega (arith, p .enough)) in
-      let named : entryAt es (j .at) .id ≡ id = ap entryId (entry-at (j .at) (j .inside)) ∙ j .same-id in
-      let m = first-some entryId none es id 0 count (j .at) (omega arith) (omega (arith, j .inside)) named in
-      m .1 ∙ ap At (sym (order-at k h ∙ ap position (m .1)))
+  found-at k h = let m = some-at k h in found-by k h (m .0) (m .1)
 
   pub place-inside : (k : ℕ) → k < count → placeAt order k < count
   place-inside k h = omega (arith, first-below entryId none es ((getD xs k noStep) .id) 0 count (placeAt order k) (found-at k h))

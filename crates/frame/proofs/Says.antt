@@ -8,14 +8,14 @@ use lib.ListN.{getD}
 use Rattle.model.proofs.Lists.{clash}
 use Rattle.table.specs.declared.refusal.Refusal.{Refusal}
 use Rattle.table.proofs.Refusals.{says-injective, says-numbered}
-use Rattle.frame.specs.Step.{Said, readingSays, answerSays}
+use Rattle.frame.specs.Step.{Reply, readingSays, answerSays}
 use Rattle.frame.specs.declared.Sample.{Sample}
 use Rattle.frame.specs.declared.Reading.{Reading}
 use Rattle.frame.specs.declared.Reading.the-variants as reads
 use Rattle.frame.specs.declared.Answer.{Answer}
 use Rattle.frame.specs.declared.Answer.the-variants.{Done, Panel, Rest, Read, Refused}
 
-abbrev numbersOf : Said → List ℕ
+abbrev numbersOf : Reply → List ℕ
 numbersOf s = s .numbers
 
 -- an accepted answer says 0 first
@@ -26,7 +26,7 @@ zero-read reads.Late = refl
 zero-read reads.Missing = refl
 
 not-refused : {P : Type 0} (a : Answer) → getD (answerSays a .numbers) 0 0 ≡ 0 → (r : Refusal) → answerSays a ≡ answerSays (Refused r) → P
-not-refused a z r e = absurd (omega (arith, z, says-numbered r, ap (λ (s : Said). getD (s .numbers) 0 0) e))
+not-refused a z r e = absurd (omega (arith, z, says-numbered r, ap (λ (s : Reply). getD (s .numbers) 0 0) e))
 
 -- the second number tells the readings apart, and from the panel's answers by how many numbers there are
 same-away : (a b : Bool) → _≡_ {A = ℕ} (cond a 1 0) (cond b 1 0) → a ≡ b
@@ -63,7 +63,7 @@ reading-same reads.Missing reads.Late e v = clash (cc)
 reading-same reads.Missing reads.Missing e v = refl
 
 pub reading-says-injective : (r q : Reading) → readingSays r ≡ readingSays q → r ≡ q
-reading-says-injective r q e = reading-same r q (ap numbersOf e) (ap (λ (s : Said). s .float) e)
+reading-says-injective r q e = reading-same r q (ap numbersOf e) (ap (λ (s : Reply). s .float) e)
 
 -- a reading is no answer of another call
 not-done : {P : Type 0} (r : Reading) → readingSays r .numbers ≡ 0 ∷ [] → P

@@ -31,22 +31,22 @@ use Rattle.frame.specs.declared.Event.the-variants as E
 use Rattle.frame.specs.declared.Step.{Step}
 
 -- What an answer says: a number and values, 0 for a call that is accepted; and a float, where there is one.
-pub record Said : Type 0 where
+pub record Reply : Type 0 where
   pub numbers : List ℕ
   pub float : Option Float
 
-abbrev pub says : List ℕ → Said
+abbrev pub says : List ℕ → Reply
 says ns = record { numbers = ns; float = none }
 
 -- "fresh with its value, pending, late, or missing", numbered in this order; a fresh one with the number of its frame
-abbrev pub readingSays : Reading → Said
+abbrev pub readingSays : Reading → Reply
 readingSays (reads.Fresh x) = record { numbers = 0 ∷ 0 ∷ x .frame ∷ []; float = some (x .value) }
 readingSays reads.Pending = says (0 ∷ 1 ∷ [])
 readingSays reads.Late = says (0 ∷ 2 ∷ [])
 readingSays reads.Missing = says (0 ∷ 3 ∷ [])
 
 -- "the job now on the panel with its choice": 1, its id, and 1 for away; "or none left": 0. No two answers say the same (proofs/Says.antt).
-abbrev pub answerSays : Answer → Said
+abbrev pub answerSays : Answer → Reply
 answerSays Done = says (0 ∷ [])
 answerSays (Panel id away) = says (0 ∷ 1 ∷ id ∷ cond away 1 0 ∷ [])
 answerSays Rest = says (0 ∷ 0 ∷ [])

@@ -9,13 +9,14 @@ ghost use mathlib.Core.Bool.{_&&_};
 ghost use Prim.Native.Nat.{_<_, _≤_};
 ghost use lib.ListN.{length, take};
 ghost use Rattle.table.specs.Limits.{mostJobs};
+ghost use Rattle.table.specs.Refusals.{accepted};
 ghost use Rattle.table.specs.Tables.{Sound, jobTable};
 ghost use Rattle.plan.specs.Plans.{stepId, noStep, readPlan};
-ghost use Rattle.judge.specs.Check.{afterPlan};
 ghost use Rattle.frame.specs.Finite.{finite?};
 ghost use Rattle.frame.specs.Sound.{none, placeAt, entryId, first, okEntry, okFrom, okBegun, sound?, phaseIn};
-ghost use Rattle.frame.specs.Step.{idle, refused, judge, moved, spanAt, spanStep, backAt, backStep, closeStep, nextOf, unreported, readingOf, readOf, eventStep};
-ghost use Rattle.frame.specs.Begin.{stepsIn, awayIn, entriesOf, position, orderOf, begun, mayOpen, beginChecked, beginStep};
+ghost use Rattle.frame.specs.Step.{idle, refused, judge, moved, spanAt, spanStep, backAt, backStep, closeStep};
+ghost use Rattle.frame.specs.Step.{nextOf, unreported, readingOf, readOf, eventStep};
+ghost use Rattle.frame.specs.Begin.{stepsIn, awayIn, entriesOf, position, orderOf, begun, mayOpen, beginRead, beginStep};
 
 pub enum Phase {
     Idle,
@@ -426,7 +427,7 @@ impl Frame {
     // Begins with a table that is read already.
     fn begin_read(self, t: Table, plan: &[u8], number: u32) -> Step
         requires { ⌜ Sound t ⌝ }
-        ensures { λ r. ⌜ r ≡ beginChecked self number (begun number (jobTable t) (stepsIn (readPlan (now (plan .entry))))) (afterPlan (jobTable t) (readPlan (now (plan .entry)))) ⌝ }
+        ensures { λ r. ⌜ r ≡ beginRead self number (now (plan .entry)) (accepted (jobTable t)) ⌝ }
     {
         let checked = judge::check_read(t, plan);
         match checked {

@@ -26,11 +26,12 @@ use Rattle.frame.specs.declared.Standing.{Standing}
 use Rattle.frame.specs.declared.Standing.the-variants.{Waiting, Out, Held, Late}
 use Rattle.frame.specs.declared.Entry.{Entry}
 use Rattle.frame.specs.declared.Frame.{Frame}
+use Rattle.frame.specs.declared.Event.the-variants as E
 use Rattle.frame.proofs.Laws.{first-found}
 use Rattle.frame.proofs.Passed.{Passed}
 use Rattle.frame.proofs.Sound.{open-parts}
 use Rattle.frame.proofs.Reached.{Fine, moved-here, moved-other, moved-id, moved-away, entry-at, place-inside, has-id}
-use Rattle.frame_promises.specs.History.{Report, Last, History, idle, opened, closed, since, reportOf, without}
+use Rattle.frame_promises.specs.History.{Report, Last, History, idle, opened, closed, since, reportOf, happens}
 use Rattle.frame_promises.proofs.Laws.{used-head, used-tail, without-gone, without-other, report-same, report-other}
 
 -- what a job stands at, by whether it is out and by its latest report: none, and it waits or is out; else what its time makes of its value
@@ -194,12 +195,13 @@ module _ (f : Frame) (fine : Fine f) (o : open? f ≡ true) (b : Last) (a : Agre
 
   -- a job comes back
   pub comes-back :
-      (i : ℕ) → i < f .count → (id t : ℕ) (v : Float) → entryAt (f .entries) i .id ≡ id →
-      Agrees (moved f i t (f .next) (judge v (f .number) t (f .deadline)))
-      (since b t (b .to-come) (without (b .out) id) (record { job = id; time = t; value = v } ∷ b .reports))
-  comes-back i h id t v is =
-      hears i h t (f .next) (judge v (f .number) t (f .deadline)) (b .to-come) (a .left) id is v (without (b .out) id)
-      (without-gone (b .out) id) (without-other (b .out) id) refl
+      f .phase ≡ Open → (i : ℕ) → i < f .count → (n id t : ℕ) (v : Float) → entryAt (f .entries) i .id ≡ id →
+      Tells (moved f i t (f .next) (judge v (f .number) t (f .deadline))) (happens b (E.Return n id t v))
+  comes-back phase i h n id t v is = (
+    phase,
+    hears i h t (f .next) (judge v (f .number) t (f .deadline)) (b .to-come) (a .left) id is v _
+        (without-gone (b .out) id) (without-other (b .out) id) refl,
+  )
 
   pub is-closed : (t : ℕ) → Agrees (step.closed f t) (since b t (b .to-come) (b .out) (b .reports))
   is-closed t = record {

@@ -17,11 +17,12 @@ use Rattle.plan.specs.declared.Step as plan
 use Rattle.plan.specs.Plans.{stepId, readPlan}
 use Rattle.judge.specs.Check.{jobOf}
 use Rattle.frame.specs.Finite.{finite?}
-use Rattle.frame.specs.Step.{Said, says}
+use Rattle.frame.specs.Step.{Reply, says}
 use Rattle.frame.specs.Run.{Call, begin, event}
 use Rattle.frame.specs.declared.Event.{Event}
 use Rattle.frame.specs.declared.Event.the-variants as E
-use Rattle.frame_promises.specs.History.{Turn, Report, Last, History, idle, opened, closed, fresh, onClock, valued, spanEnds, returns, reading, readIn, reads, reply}
+use Rattle.frame_promises.specs.History.{Turn, Report, Last, History, idle, opened, closed, fresh, onClock, valued, spanEnds, returns, reading}
+use Rattle.frame_promises.specs.History.{readIn, reads, reply}
 use Rattle.frame_promises.specs.History.{opens, since, spanEnded, without, happens, accepts, isAccepted, told, reportOf}
 use Rattle.frame_promises.specs.Runs.{FromIdle}
 use Rattle.frame_promises.specs.Sequences.{Alike, same-call, other-span, other-back, SameBut, same-answer, other-value}
@@ -82,11 +83,11 @@ module _ (job : ℕ) where
       step true e on = heard r q (t .0) (eqb-true (r .job) id e)
       step false e on = on
 
-  module _ (b : Last) (unheard : Said) (id : ℕ) where
-    abbrev inTime : Bool → Float → Said
+  module _ (b : Last) (unheard : Reply) (id : ℕ) where
+    abbrev inTime : Bool → Float → Reply
     inTime w v = cond w (fresh (b .number) v) (says (0 ∷ 2 ∷ []))
 
-    abbrev timedSays : ℕ → Float → Said
+    abbrev timedSays : ℕ → Float → Reply
     timedSays t v = inTime (leb t (b .table .deadline)) v
 
     timed : (r q : Report) → Twin r q → r .job ≡ id → (w : Bool) → SameBut job (event (E.Read id)) (inTime w (r .value)) (inTime w (q .value))
@@ -97,13 +98,17 @@ module _ (job : ℕ) where
         step (inl e) = subst (λ (v : Float). SameBut job (event (E.Read id)) (fresh (b .number) (r .value)) (fresh (b .number) v)) e same-answer
         step (inr e) = subst (λ (i : ℕ). SameBut job (event (E.Read i)) (fresh (b .number) (r .value)) (fresh (b .number) (q .value))) (sym e ∙ is) other-value
 
-    reading-pair : (rs : List Report) (o p : Option Report) → Heard id o p → SameBut job (event (E.Read id)) (reading b unheard o) (reading (other b rs) unheard p)
+    reading-pair :
+        (rs : List Report) (o p : Option Report) → Heard id o p →
+        SameBut job (event (E.Read id)) (reading b unheard o) (reading (other b rs) unheard p)
     reading-pair rs o p not-heard = same-answer
     reading-pair rs o p (heard r q t is) =
         subst (λ (i : ℕ). SameBut job (event (E.Read id)) (reading b unheard (some r)) (timedSays i (q .value)))
         (t .times) (timed r q t is (leb (r .time) (b .table .deadline)))
 
-    read-in : (rs : List Report) → Twins (b .reports) rs → (o : Option Job) → SameBut job (event (E.Read id)) (readIn b unheard id o) (readIn (other b rs) unheard id o)
+    read-in :
+        (rs : List Report) → Twins (b .reports) rs → (o : Option Job) →
+        SameBut job (event (E.Read id)) (readIn b unheard id o) (readIn (other b rs) unheard id o)
     read-in rs t none = same-answer
     read-in rs t (some j) = reading-pair rs (reportOf (b .reports) id) (reportOf rs id) (report-pair (b .reports) rs t id)
 
@@ -124,10 +129,12 @@ module _ (job : ℕ) where
   read-after h g p c d = unchanged h g p (isAccepted (reply h c)) (isAccepted (reply g d))
 
   -- where the answers are the same
-  as-answered : (c d : Call) (h g : History) → Pair h g → reply h c ≡ reply g d → (isAccepted (reply h c) ≡ true → Pair (accepts h c) (accepts g d)) → Goes c d h g
+  as-answered :
+      (c d : Call) (h g : History) → Pair h g → reply h c ≡ reply g d → (isAccepted (reply h c) ≡ true → Pair (accepts h c) (accepts g d)) →
+      Goes c d h g
   as-answered c d h g p e q = record {
     answers = subst (SameBut job c (reply h c)) e same-answer;
-    after = subst (λ (s : Said). Pair (told h c (reply h c)) (told g d s)) e (step (isAccepted (reply h c)) refl);
+    after = subst (λ (s : Reply). Pair (told h c (reply h c)) (told g d s)) e (step (isAccepted (reply h c)) refl);
   }
     where
       step : (w : Bool) → isAccepted (reply h c) ≡ w → Pair (cond w (accepts h c) h) (cond w (accepts g d) g)
@@ -162,7 +169,8 @@ module _ (job : ℕ) where
 
     back-pair : (n id time : ℕ) (v w : Float) → (v ≡ w) ⊎ (id ≡ job) → Pair (happens b (E.Return n id time v)) (happens (other b rs) (E.Return n id time w))
     back-pair n id time v w e =
-        both-open (since b time (b .to-come) (without (b .out) id) (record { job = id; time = time; value = v } ∷ b .reports)) (record { job = id; time = time; value = w } ∷ rs)
+        both-open (since b time (b .to-come) (without (b .out) id) (record { job = id; time = time; value = v } ∷ b .reports))
+        (record { job = id; time = time; value = w } ∷ rs)
         (report-twin id time v w e, t)
 
     -- the same call
@@ -193,7 +201,9 @@ module _ (job : ℕ) where
       after = read-after (closed b) (closed (other b rs)) (both-closed b rs t) (event (E.Read id)) (event (E.Read id));
     }
 
-  begin-same : (h g : History) → Pair h g → (table s : List ℕ) (n : ℕ) → reply h (begin table s n) ≡ reply g (begin table s n) → Goes (begin table s n) (begin table s n) h g
+  begin-same :
+      (h g : History) → Pair h g → (table s : List ℕ) (n : ℕ) → reply h (begin table s n) ≡ reply g (begin table s n) →
+      Goes (begin table s n) (begin table s n) h g
   begin-same h g p table s n e = as-answered (begin table s n) (begin table s n) h g p e (λ _. opens-pair n (readTable table) (readPlan s) h g p)
 
   same-goes : (c : Call) (h g : History) → Pair h g → Goes c c h g
@@ -246,8 +256,8 @@ module _ (job : ℕ) where
   all-goes (words.and-turn {t = t} {u = u} a all) h g p (said, r) (told-u, q) =
       let w = goes a h g p in
       words.and-turn
-      (subst (λ (x : Said). SameBut job (t .call) x (u .said)) (sym said)
-      (subst (λ (x : Said). SameBut job (t .call) (reply h (t .call)) x) (sym told-u) (w .answers)))
+      (subst (λ (x : Reply). SameBut job (t .call) x (u .said)) (sym said)
+      (subst (λ (x : Reply). SameBut job (t .call) (reply h (t .call)) x) (sym told-u) (w .answers)))
       (all-goes all (told h (t .call) (t .said)) (told g (u .call) (u .said)) (rw (said, told-u) (w .after)) r q)
 
 -- the promise

@@ -15,7 +15,7 @@ use Rattle.table.proofs.Refusals.{says-not-zero}
 use Rattle.judge.specs.declared.Checked.{Checked}
 use Rattle.judge.specs.declared.Checked.the-variants as checked
 use Rattle.judge.specs.Check.{checkedSays, checkPlan}
-use Rattle.frame.specs.Step.{Said, says}
+use Rattle.frame.specs.Step.{Reply, says}
 use Rattle.frame.specs.Run.{Call, begin}
 use Rattle.frame.proofs.Laws.{false-true}
 use Rattle.frame_promises.specs.History.{Turn, Last, History, idle, opened, closed, done, refuse, begins, reply, isAccepted, history}
@@ -89,7 +89,7 @@ passed-then (checked.Fails r) up a = absurd (refused-not r a)
 
 -- ---- the promises
 
-module _ (before : List Turn) (table plan : List ℕ) (number : ℕ) (s : Said) (after : List Turn)
+module _ (before : List Turn) (table plan : List ℕ) (number : ℕ) (s : Reply) (after : List Turn)
     (run : FromIdle (before ++ (record { call = begin table plan number; said = s } ∷ after))) where
   abbrev turn : Turn
   turn = record { call = begin table plan number; said = s }

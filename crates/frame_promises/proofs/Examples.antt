@@ -10,7 +10,7 @@ use Rattle.table.specs.Tables.{frameAt, jobAt, jobsRead, readTable}
 use Rattle.plan.specs.Plans.{readPlan, recordAt}
 use Rattle.judge.specs.Check.{jobOf, listed, lacksOne, checkPlan}
 use Rattle.frame.specs.Run.{Call, begin, event}
-use Rattle.frame.specs.Step.{Said, says}
+use Rattle.frame.specs.Step.{Reply, says}
 use Rattle.frame.specs.declared.Event.the-variants as E
 use Rattle.frame_promises.specs.History.{idle, done, refuse, fresh, reportOf, without, replies}
 
@@ -29,14 +29,16 @@ abbrev upTo : ℕ → List Call → List Call
 upTo time rest = begin table plan 3 ∷ event E.Next ∷ event (E.SpanEnd 7 5 one) ∷ event (E.SpanEnd 8 25 one) ∷ event (E.Return 3 7 time one) ∷ rest
 
 abbrev asks : List Call
-asks = event (E.Read 7) ∷ event (E.Read 8) ∷ event (E.Read 9) ∷ event E.Next ∷ event (E.Return 3 7 4001 one) ∷ event (E.Return 2 7 4001 one) ∷ begin table plan 4 ∷ []
+asks =
+    event (E.Read 7) ∷ event (E.Read 8) ∷ event (E.Read 9) ∷ event E.Next ∷ event (E.Return 3 7 4001 one) ∷ event
+    (E.Return 2 7 4001 one) ∷ begin table plan 4 ∷ []
 
 -- what is answered up to the return
-abbrev first : List Said
+abbrev first : List Reply
 first = done ∷ says (0 ∷ 1 ∷ 7 ∷ 1 ∷ []) ∷ done ∷ done ∷ done ∷ []
 
 -- and after the first read: job 8 has its value, 9 is no job of the table, no job is left, job 7 is out no longer, 2 is no number, a frame is open
-abbrev rest : List Said
+abbrev rest : List Reply
 rest = fresh 3 one ∷ refuse 15 ∷ says (0 ∷ 0 ∷ []) ∷ refuse 15 ∷ refuse 13 ∷ refuse 12 ∷ []
 
 at-the-deadline : replies idle (upTo 45 asks) ≡ first ++ (fresh 3 one ∷ rest)

@@ -23,13 +23,15 @@ use Rattle.plan.specs.Plans.{stepId, noStep}
 use Rattle.draft.specs.Drafts.{stepOf}
 use Rattle.judge.specs.Check.{jobOf}
 use Rattle.frame.specs.Finite.{finite?}
-use Rattle.frame.specs.Step.{Said, says}
+use Rattle.frame.specs.Step.{Reply, says}
 use Rattle.frame.specs.Run.{Call, begin, event}
 use Rattle.frame.specs.declared.Event.the-variants as E
 use Rattle.frame.proofs.Laws.{false-true}
 use Rattle.frame.proofs.Passed.{Passed}
-use Rattle.frame_promises.specs.History.{Turn, Report, Last, History, idle, opened, closed, done, onClock, spanEnds, fresh, reads, reply, since, spanEnded, without, accepts, isAccepted, told, reportOf}
-use Rattle.frame_promises.specs.Own.{Doing, doingAt, idAt, awayAt, valueAt, spanTime, backTime, Quiet, asks-next, asks-read, asks-begin, other-number, is-refused, spanCall, backCall}
+use Rattle.frame_promises.specs.History.{Turn, Report, Last, History, idle, opened, closed, done, onClock, spanEnds, fresh, reads, reply}
+use Rattle.frame_promises.specs.History.{since, spanEnded, without, accepts, isAccepted, told, reportOf}
+use Rattle.frame_promises.specs.Own.{Doing, doingAt, idAt, awayAt, valueAt, spanTime, backTime, Quiet, asks-next, asks-read, asks-begin}
+use Rattle.frame_promises.specs.Own.{other-number, is-refused, spanCall, backCall}
 use Rattle.frame_promises.proofs.Laws.{used-head, used-tail, without-gone, without-other, report-same, report-other, in-table}
 
 module _ (number : ℕ) (t : JobTable) (xs : List Step) (p : Passed t xs) (ds : List Doing)
@@ -216,7 +218,9 @@ module _ (number : ℕ) (t : JobTable) (xs : List Step) (p : Passed t xs) (ds : 
 
     -- ---- a turn between
 
-    unchanged : (u : Turn) → accepts (opened b) (u .call) ≡ opened b → (w : Bool) → isAccepted (u .said) ≡ w → cond w (accepts (opened b) (u .call)) (opened b) ≡ opened b
+    unchanged :
+        (u : Turn) → accepts (opened b) (u .call) ≡ opened b → (w : Bool) → isAccepted (u .said) ≡ w →
+        cond w (accepts (opened b) (u .call)) (opened b) ≡ opened b
     unchanged u e true a = e
     unchanged u e false a = refl
 
@@ -238,7 +242,7 @@ module _ (number : ℕ) (t : JobTable) (xs : List Step) (p : Passed t xs) (ds : 
     tabled : b .table ≡ t
     holds : (k : ℕ) → k < length ds → Holds (b .reports) k
 
-  pub own-read : (b : Last) → Kept b → (unreported : Said) (k : ℕ) → k < length ds → reads b unreported (idAt ds k) ≡ fresh number (valueAt ds k)
+  pub own-read : (b : Last) → Kept b → (unreported : Reply) (k : ℕ) → k < length ds → reads b unreported (idAt ds k) ≡ fresh number (valueAt ds k)
   own-read b w unreported k h =
       let j = p .named k (omega (arith, counted)) in
       let i = in-table (t .jobs) (idAt ds k) (j .at) (j .inside) (j .same-id ∙ id-is k) in

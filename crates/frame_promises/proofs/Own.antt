@@ -30,7 +30,7 @@ use Rattle.judge.specs.Check.{checkedSays, lacksOne, timed, afterPlan, checkPla
 use Rattle.judge.proofs.Jobs.{member-all, perm-members}
 use Rattle.judge.proofs.Runs.{pass-iff-runs, exactly-its-jobs}
 use Rattle.frame.specs.Finite.{finite?}
-use Rattle.frame.specs.Step.{Said, says}
+use Rattle.frame.specs.Step.{Reply, says}
 use Rattle.frame.specs.Begin.{stepsIn}
 use Rattle.frame.specs.Run.{Call, begin, event}
 use Rattle.frame.specs.declared.Event.the-variants as E
@@ -41,7 +41,8 @@ use Rattle.frame_promises.specs.Own.{MayBegin, Planned, Doing, runOf, no
 use Rattle.frame_promises.specs.Own.{Plays, over, quiet, spans, backs, AllDone, Answers, OwnValues, OnlyReads, EachOwn}
 use Rattle.frame_promises.proofs.Replies.{Replied, replied, reply-told}
 use Rattle.frame_promises.proofs.Begins.{begin-iff}
-use Rattle.frame_promises.proofs.Going.{Going, few-ended, span-goes, back-goes, quiet-goes, Kept, Ended, all-ended, own-read, own-close, shut, kept-shut, begun-goes}
+use Rattle.frame_promises.proofs.Going.{Going, few-ended, span-goes, back-goes, quiet-goes, Kept, Ended, all-ended, own-read, own-close, shut}
+use Rattle.frame_promises.proofs.Going.{kept-shut, begun-goes}
 
 member-at : {d : Doing} {ds : List Doing} → List·Memᴰ d ds → (k : ℕ) × (k < length ds) × (doingAt ds k ≡ d)
 member-at (List·Memᴰ·head e) = (0, omega arith, sym e)
@@ -160,7 +161,7 @@ module _ (number : ℕ) (t : JobTable) (xs : List Step) (p : Passed t xs) (ds : 
   Ends (closed b) = ⊥
 
   -- a turn whose call and answer are known
-  next-is : (b : Last) (u : Turn) (c : Call) (s : Said) → u .call ≡ c → u .said ≡ s → told (opened b) (u .call) (u .said) ≡ told (opened b) c s
+  next-is : (b : Last) (u : Turn) (c : Call) (s : Reply) → u .call ≡ c → u .said ≡ s → told (opened b) (u .call) (u .said) ≡ told (opened b) c s
   next-is b u c s e q = rw (e, q)
 
   runs :
@@ -221,7 +222,7 @@ module _ (number : ℕ) (t : JobTable) (xs : List Step) (p : Passed t xs) (ds : 
       close-own : Answers ts (event (E.Close time)) done
       close-own r rest run = reply-told ts (record { call = event (E.Close time); said = r }) rest run ∙ close-now time late (history idle ts) w
 
-      closed-own : (s : Said) (us : List Turn) → OnlyReads us → OwnValues number ds (ts ++ (record { call = event (E.Close time); said = s } ∷ us))
+      closed-own : (s : Reply) (us : List Turn) → OnlyReads us → OwnValues number ds (ts ++ (record { call = event (E.Close time); said = s } ∷ us))
       unfolding history
       closed-own s us only k h r rest run =
           let c : Turn = record { call = event (E.Close time); said = s } in
@@ -230,18 +231,19 @@ module _ (number : ℕ) (t : JobTable) (xs : List Step) (p : Passed t xs) (ds : 
           let accepted : s ≡ done = close-own s (us ++ (u ∷ rest)) shut-run in
           let is = reply-told (ts ++ (c ∷ us)) u rest run in
           is ∙ ap (λ (h : History). reply h (u .call)) (history-append idle ts (c ∷ us)) ∙
-          ap (λ (x : Said). reply (history (told (history idle ts) (event (E.Close time)) x) us) (u .call)) accepted ∙
+          ap (λ (x : Reply). reply (history (told (history idle ts) (event (E.Close time)) x) us) (u .call)) accepted ∙
           reads-then time late (history idle ts) w us only k h
 
 -- ---- own value
 
-after-begin : (before : List Turn) (c : Turn) (us : List Turn) → history idle (before ++ (c ∷ us)) ≡ history (told (history idle before) (c .call) (c .said)) us
+after-begin :
+    (before : List Turn) (c : Turn) (us : List Turn) → history idle (before ++ (c ∷ us)) ≡ history (told (history idle before) (c .call) (c .said)) us
 unfolding history
 after-begin before c us = history-append idle before (c ∷ us)
 
 -- the accepted begin opens the frame of its bytes
 begun-is :
-    {table plan : List ℕ} {t : JobTable} {cs : List Chosen} (w : Planned table plan t cs) (before : List Turn) (number : ℕ) (s : Said) → s ≡ done →
+    {table plan : List ℕ} {t : JobTable} {cs : List Chosen} (w : Planned table plan t cs) (before : List Turn) (number : ℕ) (s : Reply) → s ≡ done →
     told (history idle before) (begin table plan number) s ≡
     opened (record { number = number; table = t; to-come = w .steps; out = []; reports = []; clock = 0 })
 begun-is w before number s e = rw (e, w .is-table, w .is-plan)
@@ -253,7 +255,7 @@ pub own-value :
     {table plan : List ℕ} {t : JobTable} {cs : List Chosen} → Planned table plan t cs →
     (before : List Turn) (number : ℕ) → MayBegin before table plan number →
     (ds : List Doing) → RunOf cs (runOf ds) → All (λ (d : Doing). finite? (d .value) ≡ true) ds →
-    (s : Said) {us : List Turn} (q : Plays number ds 0 [] 0 us) →
+    (s : Reply) {us : List Turn} (q : Plays number ds 0 [] 0 us) →
     FromIdle (before ++ (record { call = begin table plan number; said = s } ∷ us)) →
     (s ≡ done) × AllDone q × EachOwn number t ds (before ++ (record { call = begin table plan number; said = s } ∷ us))
 own-value {table} {plan} {t} {cs} w before number may ds run finite s {us} q turns =
@@ -271,7 +273,8 @@ own-value {table} {plan} {t} {cs} w before number may ds run finite s {us} q tur
     let opens = begun-is w before number s is in
     let g = begun-goes number t (w .steps) p ds counted steps in
     let r = runs number t (w .steps) p ds counted steps fits values q _ g (subst (λ (h : History). Replied h us) opens (replied before (c ∷ us) turns .1)) in
-    let ends = subst (Ends number t (w .steps) p ds counted steps fits values) (sym (after-begin before c us ∙ ap (λ (h : History). history h us) opens)) (r .1) in
+    let ends = subst (Ends number t (w .steps) p ds counted steps fits values)
+    (sym (after-begin before c us ∙ ap (λ (h : History). history h us) opens)) (r .1) in
     let ts = before ++ (c ∷ us) in (
       is,
       r .0,

@@ -16,7 +16,7 @@ use Rattle.model.specs.Lists.{All, Pairwise}
 use Rattle.model.proofs.Lists.{clash, all-map, all-zip}
 use Rattle.model.proofs.Permutations.{all-perm, pairwise-perm, length-perm}
 use Rattle.judge.proofs.Jobs.{member-all, perm-members}
-use Rattle.frame.specs.Step.{Said, answerSays}
+use Rattle.frame.specs.Step.{Reply, answerSays}
 use Rattle.frame.specs.Run.{Call, begin, event, stepOf}
 use Rattle.frame.specs.declared.Frame.{Frame}
 use Rattle.frame.specs.declared.Step.{Step}
@@ -103,7 +103,7 @@ module _ (number : ℕ) (ds : List Doing) where
     not-back : List·Memᴰ k home → ⊥
     later : t ≤ backTime ds k
 
-  record Ready (n : ℕ) (home : List ℕ) (t : ℕ) (out : List ℕ) : Type 0 where
+  record Coming (n : ℕ) (home : List ℕ) (t : ℕ) (out : List ℕ) : Type 0 where
     due : All (Due n home t) out
     differ : Pairwise (λ (i k : ℕ). i ≡ k → ⊥) out
     all : (k : ℕ) → k < n → awayAt ds k ≡ true → List·Memᴰ k home ⊎ List·Memᴰ k out
@@ -114,9 +114,12 @@ module _ (number : ℕ) (ds : List Doing) where
   Played n home t = (calls : List Call) × ((us : List Turn) → callsOf us ≡ calls → Plays number ds n home t us)
 
   -- the next span ends
-  module _ {n : ℕ} {home : List ℕ} {t : ℕ} {out : List ℕ} (r : Ready n home t out) (inside : n < length ds) (soon : All (λ (k : ℕ). spanTime ds n ≤ backTime ds k) out) where
+  module _ {n : ℕ} {home : List ℕ} {t : ℕ} {out : List ℕ} (r : Coming n home t out) (inside : n < length ds)
+      (soon : All (λ (k : ℕ). spanTime ds n ≤ backTime ds k) out) where
     still : All (Due (n + 1) home (spanTime ds n)) out
-    still = all-map (λ k w. record { ended = omega (arith, w .0 .ended); away = w .0 .away; not-back = w .0 .not-back; later = w .1 }) out (all-zip _ _ out (r .due) soon)
+    still =
+        all-map (λ k w. record { ended = omega (arith, w .0 .ended); away = w .0 .away; not-back = w .0 .not-back; later = w .1 }) out
+        (all-zip _ _ out (r .due) soon)
 
     rising : spanTime ds n ≤ spanTime ds (n + 1)
     rising = rw add-one (spans-rise ds n)
@@ -124,7 +127,7 @@ module _ (number : ℕ) (ds : List Doing) where
     was : (k : ℕ) → k < n + 1 → (k ≡ n) ⊎ (k < n)
     was k h = eq-or-lt-of-le (omega arith)
 
-    goes-out : awayAt ds n ≡ true → Ready (n + 1) home (spanTime ds n) (n ∷ out)
+    goes-out : awayAt ds n ≡ true → Coming (n + 1) home (spanTime ds n) (n ∷ out)
     goes-out away = record {
       due = (record { ended = omega arith; away = away; not-back = λ m. omega (arith, r .passed n m); later = omega arith }, still);
       differ = (all-map (λ k d e. omega (arith, d .ended)) out (r .due), r .differ);
@@ -136,7 +139,7 @@ module _ (number : ℕ) (ds : List Doing) where
       passed = λ k m. omega (arith, r .passed k m);
     }
 
-    stays : awayAt ds n ≡ false → Ready (n + 1) home (spanTime ds n) out
+    stays : awayAt ds n ≡ false → Coming (n + 1) home (spanTime ds n) out
     stays here = record {
       due = still;
       differ = r .differ;
@@ -148,13 +151,14 @@ module _ (number : ℕ) (ds : List Doing) where
       passed = λ k m. omega (arith, r .passed k m);
     }
 
-    span-played : ((out : List ℕ) → Ready (n + 1) home (spanTime ds n) out → Played (n + 1) home (spanTime ds n)) → Played n home t
+    span-played : ((out : List ℕ) → Coming (n + 1) home (spanTime ds n) out → Played (n + 1) home (spanTime ds n)) → Played n home t
     span-played on = step (awayAt ds n) refl
       where
         go : Played (n + 1) home (spanTime ds n) → Played n home t
         go p = (
           spanCall ds n (valueAt ds n) ∷ p .0,
-          λ us e. first-turn (Plays number ds n home t) us (spanCall ds n (valueAt ds n)) (p .0) e (λ v vs is rest. spans is inside (r .next inside) (λ e. refl) (p .1 vs rest)),
+          λ us e. first-turn (Plays number ds n home t) us (spanCall ds n (valueAt ds n)) (p .0) e
+              (λ v vs is rest. spans is inside (r .next inside) (λ e. refl) (p .1 vs rest)),
         )
 
         step : (away : Bool) → awayAt ds n ≡ away → Played n home t
@@ -162,14 +166,15 @@ module _ (number : ℕ) (ds : List Doing) where
         step false e = go (on out (stays e))
 
   -- the first of those that are away comes back
-  module _ {n : ℕ} {home : List ℕ} {t : ℕ} {x : ℕ} {xs : List ℕ} (r : Ready n home t (x ∷ xs)) (w : First x xs) (soon : n < length ds → backTime ds (w .at) ≤ spanTime ds n) where
+  module _ {n : ℕ} {home : List ℕ} {t : ℕ} {x : ℕ} {xs : List ℕ} (r : Coming n home t (x ∷ xs)) (w : First x xs)
+      (soon : n < length ds → backTime ds (w .at) ≤ spanTime ds n) where
     due-first : All (Due n home t) (w .at ∷ w .others)
     due-first = all-perm (Due n home t) (w .same) (r .due)
 
     differ-first : Pairwise (λ (i k : ℕ). i ≡ k → ⊥) (w .at ∷ w .others)
     differ-first = pairwise-perm (λ (i k : ℕ). i ≡ k → ⊥) (λ i k o e. o (sym e)) (w .same) (r .differ)
 
-    is-home : Ready n (w .at ∷ home) (backTime ds (w .at)) (w .others)
+    is-home : Coming n (w .at ∷ home) (backTime ds (w .at)) (w .others)
     is-home = record {
       due = all-map (λ k h. record {
         ended = h .0 .ended;
@@ -195,10 +200,10 @@ module _ (number : ℕ) (ds : List Doing) where
         )
 
   -- returns while they come first, then the next span
-  module _ (n : ℕ) (few : n ≤ length ds) (on : n < length ds → (home : List ℕ) (t : ℕ) (out : List ℕ) → Ready (n + 1) home t out → Played (n + 1) home t) where
+  module _ (n : ℕ) (few : n ≤ length ds) (on : n < length ds → (home : List ℕ) (t : ℕ) (out : List ℕ) → Coming (n + 1) home t out → Played (n + 1) home t) where
     soonest :
-        (home : List ℕ) (t : ℕ) (out : List ℕ) → Ready n home t out →
-        ((back : List ℕ) (u : ℕ) (left : List ℕ) → length left < length out → Ready n back u left → Played n back u) → Played n home t
+        (home : List ℕ) (t : ℕ) (out : List ℕ) → Coming n home t out →
+        ((back : List ℕ) (u : ℕ) (left : List ℕ) → length left < length out → Coming n back u left → Played n back u) → Played n home t
     soonest home t [] r back = step (ltb n (length ds)) refl
       where
         step : (b : Bool) → ltb n (length ds) ≡ b → Played n home t
@@ -223,11 +228,11 @@ module _ (number : ℕ) (ds : List Doing) where
             (all-perm (λ (k : ℕ). spanTime ds n ≤ backTime ds k) (Permᴰ·symm (w .same)) (omega arith, all-map (λ k l. omega arith) (w .others) (w .least)))
             (on h home (spanTime ds n))
 
-    till-span : (most : ℕ) (home : List ℕ) (t : ℕ) (out : List ℕ) → length out ≤ most → Ready n home t out → Played n home t
+    till-span : (most : ℕ) (home : List ℕ) (t : ℕ) (out : List ℕ) → length out ≤ most → Coming n home t out → Played n home t
     till-span zero home t out e r = soonest home t out r (λ back u left less. absurd (omega arith))
     till-span (suc most) home t out e r = soonest home t out r (λ back u left less. till-span most back u left (omega arith))
 
-  from : (left n : ℕ) → n + left ≡ length ds → (home : List ℕ) (t : ℕ) (out : List ℕ) → Ready n home t out → Played n home t
+  from : (left n : ℕ) → n + left ≡ length ds → (home : List ℕ) (t : ℕ) (out : List ℕ) → Coming n home t out → Played n home t
   from zero n e home t out = till-span n (omega arith) (λ h. absurd (omega arith)) (length out) home t out (omega arith)
   from (suc left) n e home t out = till-span n (omega arith) (λ h. from left (n + 1) (omega arith)) (length out) home t out (omega arith)
 
@@ -262,4 +267,4 @@ played before run table plan number may ds =
         let run : FromIdle (before ++ (record { call = begin table plan number; said = v .said } ∷ vs)) =
         subst (λ (c : Call). FromIdle (before ++ (record { call = c; said = v .said } ∷ vs))) call r in
         let is = begin-iff before table plan number (v .said) vs run .1 may in
-        (vs, in-order number ds .1 vs (cc), subst (λ (s : Said). FromIdle (before ++ (record { call = begin table plan number; said = s } ∷ vs))) is run)
+        (vs, in-order number ds .1 vs (cc), subst (λ (s : Reply). FromIdle (before ++ (record { call = begin table plan number; said = s } ∷ vs))) is run)

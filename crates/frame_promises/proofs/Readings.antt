@@ -19,12 +19,14 @@ use Rattle.plan.specs.declared.Step as plan
 use Rattle.plan.specs.Plans.{readPlan}
 use Rattle.judge.specs.Check.{jobOf}
 use Rattle.judge.proofs.Jobs.{member-all}
-use Rattle.frame.specs.Step.{Said, says}
+use Rattle.frame.specs.Step.{Reply, says}
 use Rattle.frame.specs.Run.{Call, begin, event}
 use Rattle.frame.specs.declared.Event.the-variants as E
-use Rattle.frame_promises.specs.History.{Turn, Report, Last, History, idle, opened, closed, refuse, fresh, reading, readIn, reads, reply, isAccepted, told, history, reportOf}
+use Rattle.frame_promises.specs.History.{Turn, Report, Last, History, idle, opened, closed, refuse, fresh, reading, readIn, reads, reply}
+use Rattle.frame_promises.specs.History.{isAccepted, told, history, reportOf}
 use Rattle.frame_promises.specs.Runs.{FromIdle}
-use Rattle.frame_promises.specs.Readings.{NoBegin, LastBegin, Reported, Unreported, IsClosed, Has, ReadSays, never-begun, no-job, is-fresh, is-pending, is-late, is-missing, Behind}
+use Rattle.frame_promises.specs.Readings.{NoBegin, LastBegin, Reported, Unreported, IsClosed, Has, ReadSays, never-begun, no-job, is-fresh}
+use Rattle.frame_promises.specs.Readings.{is-pending, is-late, is-missing, Behind}
 use Rattle.frame_promises.proofs.Since.{Since, Traced}
 use Rattle.frame_promises.proofs.Replies.{reads-told, traced}
 
@@ -97,7 +99,7 @@ never-and-last {since = since} all l = behind (l .before) (l .turn) since (rw (l
 -- ---- a frame that was begun
 
 -- what is said of a job of which nothing was heard
-abbrev unheard : Bool → Said
+abbrev unheard : Bool → Reply
 unheard true = says (0 ∷ 3 ∷ [])
 unheard false = says (0 ∷ 1 ∷ [])
 
@@ -115,7 +117,7 @@ module _ {ts : List Turn} {b : Last} (id : ℕ) where
       {shut : Bool} (w : Since ts b shut) → Has (b .table .jobs) id → (r : Report) → reportOf (b .reports) id ≡ some r → (q : Bool) →
       leb (r .time) (b .table .deadline) ≡ q → ReadSays ts id (cond q (fresh (b .number) (r .value)) (says (0 ∷ 2 ∷ [])))
   timed-says w has r e true early = is-fresh (w .begun) has (w .made id r e) (leb-true _ _ early)
-  timed-says w has r e false late = is-late (w .begun) has (w .made id r e) (leb-false _ _ late)
+  timed-says w has r e false late = is-late (w .begun) has (w .made id r e) (omega (arith, leb-false (r .time) (b .table .deadline) late))
 
   reading-says :
       (shut : Bool) (w : Since ts b shut) → Has (b .table .jobs) id → (o : Option Report) → reportOf (b .reports) id ≡ o →
@@ -130,7 +132,8 @@ module _ {ts : List Turn} {b : Last} (id : ℕ) where
 
   -- ---- and nothing else does
 
-  module _ {n : ℕ} {jobs : JobTable} {steps : List plan.Step} {since : List Turn} {shut : Bool} (w : Since ts b shut) (l : LastBegin ts n jobs steps since) where
+  module _ {n : ℕ} {jobs : JobTable} {steps : List plan.Step} {since : List Turn} {shut : Bool} (w : Since ts b shut)
+      (l : LastBegin ts n jobs steps since) where
     same : Same n (b .number) jobs (b .table) steps (w .steps) since (w .later)
     same = same-begin l (w .begun)
 
@@ -156,7 +159,7 @@ module _ {ts : List Turn} {b : Last} (id : ℕ) where
     not-there un none e = refl
     not-there un (some j) e = absurd (un (subst (λ (t : JobTable). Has (t .jobs) id) (sym (same .tables)) (has-job (b .table .jobs) id j e)))
 
-  only-says : (shut : Bool) (w : Since ts b shut) (q : Said) → ReadSays ts id q → q ≡ reads b (unheard shut) id
+  only-says : (shut : Bool) (w : Since ts b shut) (q : Reply) → ReadSays ts id q → q ≡ reads b (unheard shut) id
   only-says shut w q (never-begun all) = absurd (never-and-last all (w .begun))
   only-says shut w q (no-job l un) = rw (not-there w l un (jobOf (b .table .jobs) id) refl)
   only-says shut w q (is-fresh {number = n} {jobs = jobs} l has {time = time} {v = v} r early) =
@@ -177,7 +180,7 @@ said-of ts idle w id = never-begun w
 said-of ts (opened b) w id = in-table-says id false w (jobOf (b .table .jobs) id) refl
 said-of ts (closed b) w id = in-table-says id true w (jobOf (b .table .jobs) id) refl
 
-only-of : (ts : List Turn) (h : History) → Traced ts h → (id : ℕ) (q : Said) → ReadSays ts id q → q ≡ reply h (event (E.Read id))
+only-of : (ts : List Turn) (h : History) → Traced ts h → (id : ℕ) (q : Reply) → ReadSays ts id q → q ≡ reply h (event (E.Read id))
 only-of ts idle w id q (never-begun all) = refl
 only-of ts idle w id q (no-job l un) = absurd (never-and-last w l)
 only-of ts idle w id q (is-fresh l has r early) = absurd (never-and-last w l)
@@ -189,28 +192,29 @@ only-of ts (closed b) w id q r = only-says id true w q r
 
 -- ---- the promises
 
-module _ (before : List Turn) (id : ℕ) (r : Said) (after : List Turn) (run : FromIdle (before ++ (record { call = event (E.Read id); said = r } ∷ after))) where
+module _ (before : List Turn) (id : ℕ) (r : Reply) (after : List Turn)
+    (run : FromIdle (before ++ (record { call = event (E.Read id); said = r } ∷ after))) where
   -- a read says exactly what the turns before it tell
-  pub reads-says : (q : Said) → (r ≡ q) ↔ ReadSays before id q
+  pub reads-says : (q : Reply) → (r ≡ q) ↔ ReadSays before id q
   reads-says q =
       let h = history idle before in
       let w = traced before (record { call = event (E.Read id); said = r } ∷ after) run in
       let is = reads-told before r after id run in
       (λ e. subst (ReadSays before id) (sym is ∙ e) (said-of before h w id), λ s. is ∙ sym (only-of before h w id q s))
 
-stands-behind : (ts : List Turn) (id : ℕ) (q : Said) → ReadSays ts id q → (number : ℕ) (v : Float) → q ≡ fresh number v → Behind ts id number v
-stands-behind ts id q (never-begun all) number v e = let z = ap (λ (s : Said). s .numbers) e in clash (cc)
-stands-behind ts id q (no-job l un) number v e = let z = ap (λ (s : Said). s .numbers) e in clash (cc)
+stands-behind : (ts : List Turn) (id : ℕ) (q : Reply) → ReadSays ts id q → (number : ℕ) (v : Float) → q ≡ fresh number v → Behind ts id number v
+stands-behind ts id q (never-begun all) number v e = let z = ap (λ (s : Reply). s .numbers) e in clash (cc)
+stands-behind ts id q (no-job l un) number v e = let z = ap (λ (s : Reply). s .numbers) e in clash (cc)
 stands-behind ts id q (is-fresh {number = n} {jobs = js} {steps = xs} {since = on} l has {time = t} {v = u} r early) number v e =
-    let z = ap (λ (s : Said). s .numbers) e in
-    let y = ap (λ (s : Said). s .float) e in
+    let z = ap (λ (s : Reply). s .numbers) e in
+    let y = ap (λ (s : Reply). s .float) e in
     let numbers : n ≡ number = cc in
     let values : u ≡ v = cc in
     subst (λ (x : ℕ). Behind ts id x v) numbers
     (subst (λ (x : Float). Behind ts id n x) values (record { jobs = js; steps = xs; since = on; begun = l; time = t; reported = r; in-time = early }))
-stands-behind ts id q (is-late l has r late) number v e = let z = ap (λ (s : Said). s .numbers) e in clash (cc)
-stands-behind ts id q (is-pending l has un open-still) number v e = let z = ap (λ (s : Said). s .numbers) e in clash (cc)
-stands-behind ts id q (is-missing l has un shut-then) number v e = let z = ap (λ (s : Said). s .numbers) e in clash (cc)
+stands-behind ts id q (is-late l has r late) number v e = let z = ap (λ (s : Reply). s .numbers) e in clash (cc)
+stands-behind ts id q (is-pending l has un open-still) number v e = let z = ap (λ (s : Reply). s .numbers) e in clash (cc)
+stands-behind ts id q (is-missing l has un shut-then) number v e = let z = ap (λ (s : Reply). s .numbers) e in clash (cc)
 
 -- the insurer's sentence: a read that says 0, 0, a number and a value
 pub safe :

@@ -3,7 +3,7 @@
 use Prim.Native.Nat.{ℕ}
 use mathlib.Core.Path.{_≡_, refl, sym, _∙_, ap, subst}
 use mathlib.Core.List.{List, [], _∷_, _++_, map, append-assoc, append-nil}
-use Rattle.frame.specs.Step.{Said, answerSays}
+use Rattle.frame.specs.Step.{Reply, answerSays}
 use Rattle.frame.specs.Step as step
 use Rattle.frame.specs.Run.{Call, begin, event, stepOf}
 use Rattle.frame.specs.declared.Frame.{Frame}
@@ -59,7 +59,7 @@ unfolding replies
 answers ts [] h r = refl
 answers ts (t ∷ rest) h r =
     let on = answers (ts ++ (t ∷ [])) rest (told h (t .call) (t .said)) (goes-on ts h t rest r) in
-    rw (← answered ts h t rest r) (ap (λ (l : List Said). t .said ∷ l) on)
+    rw (← answered ts h t rest r) (ap (λ (l : List Reply). t .said ∷ l) on)
 
 -- after some of them
 arrives : (ts before rest : List Turn) (h : History) → Arrived ts h (before ++ rest) → Arrived (ts ++ before) (history h before) rest
@@ -97,7 +97,7 @@ replied-all ts r = replied-from [] ts idle (starts ts r)
 pub replied : (before rest : List Turn) → FromIdle (before ++ rest) → Replied (history idle before) rest
 replied before rest r = replied-from before rest (history idle before) (arrives [] before rest idle (starts (before ++ rest) r))
 
-module _ (before : List Turn) (r : Said) (after : List Turn) where
+module _ (before : List Turn) (r : Reply) (after : List Turn) where
   -- a read; a next
   pub reads-told :
       (id : ℕ) → FromIdle (before ++ (record { call = event (E.Read id); said = r } ∷ after)) → r ≡ reply (history idle before) (event (E.Read id))

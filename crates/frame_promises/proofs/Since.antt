@@ -25,12 +25,13 @@ use Rattle.judge.specs.declared.Checked.the-variants.{Passes, Fails}
 use Rattle.judge.specs.Check.{afterPlan, afterTable, checkPlan}
 use Rattle.judge.proofs.Jobs.{member-all, perm-members}
 use Rattle.frame.specs.Finite.{finite?}
-use Rattle.frame.specs.Step.{Said, says}
+use Rattle.frame.specs.Step.{Reply, says}
 use Rattle.frame.specs.Run.{Call, begin, event}
 use Rattle.frame.specs.declared.Event.{Event}
 use Rattle.frame.specs.declared.Event.the-variants as E
 use Rattle.frame.proofs.Laws.{false-true}
-use Rattle.frame_promises.specs.History.{Turn, Report, Last, History, idle, opened, closed, refuse, begins, onClock, valued, spanEnds, returns, closes, reply}
+use Rattle.frame_promises.specs.History.{Turn, Report, Last, History, idle, opened, closed, refuse, begins, onClock, valued, spanEnds, returns}
+use Rattle.frame_promises.specs.History.{closes, reply}
 use Rattle.frame_promises.specs.History.{opens, since, spanEnded, without, happens, accepts, isAccepted, told, reportOf}
 use Rattle.frame_promises.specs.Readings.{Did, NoBegin, LastBegin, Reported, by-return, by-span, Unreported, IsClosed}
 use Rattle.frame_promises.proofs.Laws.{refused-not, report-same, report-other, report-among}
@@ -150,7 +151,9 @@ read-idle t i is = record {
   closes-not = λ time d. let z : event (E.Read i) ≡ event (E.Close time) = sym is ∙ did-one t d .0 in clash (cc);
 }
 
-ended-still : (shut : Bool) (later : List Turn) (t : Turn) → ((time : ℕ) → Did (event (E.Close time)) (t ∷ []) → ⊥) → Ended shut later → Ended shut (later ++ (t ∷ []))
+ended-still :
+    (shut : Bool) (later : List Turn) (t : Turn) → ((time : ℕ) → Did (event (E.Close time)) (t ∷ []) → ⊥) → Ended shut later →
+    Ended shut (later ++ (t ∷ []))
 ended-still true later t never (time, d) = (time, did-left (t ∷ []) d)
 ended-still false later t never e = λ w. ⊎-elim (λ d. e (w .0, d)) (λ d. never (w .0) d) (did-cases later (t ∷ []) (w .1))
 
@@ -194,7 +197,9 @@ module _ {ts : List Turn} {b : Last} {shut : Bool} (w : Since ts b shut) (t : Tu
     new-heard : (i s : ℕ) (u : Float) → (job ≡ i) × (time ≡ s) × (v ≡ u) → reportOf (report ∷ b .reports) i ≡ some (record { job = i; time = s; value = u })
     new-heard i s u (p, q, r) = report-same report (b .reports) i p ∙ (λ k. some (record { job = p k; time = q k; value = r k }))
 
-    new-made : (i : ℕ) (r : Report) → reportOf (report ∷ b .reports) i ≡ some r → (c : Bool) → eqb job i ≡ c → Reported (w .later ++ (t ∷ [])) (w .steps) (b .number) i (r .time) (r .value)
+    new-made :
+        (i : ℕ) (r : Report) → reportOf (report ∷ b .reports) i ≡ some r → (c : Bool) → eqb job i ≡ c →
+        Reported (w .later ++ (t ∷ [])) (w .steps) (b .number) i (r .time) (r .value)
     new-made i r e true is =
         let same : report ≡ r = let z : some report ≡ some r = sym (report-same report (b .reports) i (eqb-true job i is)) ∙ e in cc in
         let now : Reported (w .later ++ (t ∷ [])) (w .steps) (b .number) job time v = reported-right (w .later) reports in
@@ -217,11 +222,11 @@ module _ {ts : List Turn} {b : Last} {shut : Bool} (w : Since ts b shut) (t : Tu
 
 -- ---- what an accepted call shows
 
-pub refused-else : (w : Bool) (p q : Said) → isAccepted q ≡ false → isAccepted (cond w p q) ≡ true → (w ≡ true) × (isAccepted p ≡ true)
+pub refused-else : (w : Bool) (p q : Reply) → isAccepted q ≡ false → isAccepted (cond w p q) ≡ true → (w ≡ true) × (isAccepted p ≡ true)
 refused-else true p q un a = (refl, a)
 refused-else false p q un a = absurd (false-true (sym un ∙ a))
 
-else-only : (w : Bool) (p q : Said) → isAccepted p ≡ false → isAccepted (cond w p q) ≡ true → isAccepted q ≡ true
+else-only : (w : Bool) (p q : Reply) → isAccepted p ≡ false → isAccepted (cond w p q) ≡ true → isAccepted q ≡ true
 else-only true p q un a = absurd (false-true (sym un ∙ a))
 else-only false p q un a = a
 
@@ -245,7 +250,9 @@ return-accepted b n id t v a =
     (eqb-true n (b .number) (w .0), u .0)
 
 -- two steps of a plan that have one id are one
-one-step : (xs : List plan.Step) → Pairwise (λ (x y : plan.Step). ¬ (x .id ≡ y .id)) xs → {x y : plan.Step} → List·Memᴰ x xs → List·Memᴰ y xs → x .id ≡ y .id → x ≡ y
+one-step :
+    (xs : List plan.Step) → Pairwise (λ (x y : plan.Step). ¬ (x .id ≡ y .id)) xs → {x y : plan.Step} → List·Memᴰ x xs → List·Memᴰ y xs →
+    x .id ≡ y .id → x ≡ y
 one-step (z ∷ zs) d (List·Memᴰ·head p) (List·Memᴰ·head q) e = p ∙ sym q
 one-step (z ∷ zs) d (List·Memᴰ·head p) (List·Memᴰ·tail n) e = absurd (member-all _ (d .0) n (sym (ap stepId p) ∙ e))
 one-step (z ∷ zs) d (List·Memᴰ·tail m) (List·Memᴰ·head q) e = absurd (member-all _ (d .0) m (sym (ap stepId q) ∙ sym e))
@@ -269,7 +276,7 @@ module _ {ts : List Turn} {b : Last} (w : Since ts b false) (one : OneReport b) 
       let k = return-accepted b n id time v (rw (← said) a) in
       let c : t .call ≡ event (E.Return (b .number) id time v) = rw (← k .0) is in
       more w t (no-begin t (E.Return n id time v) is) (other-close (E.Return n id time v) is (λ s z. clash (cc))) id time v
-      (one .out-silent id (k .1)) (by-return (did-now [] t c a)) (only c) time (b .to-come) (w .ahead) (without (b .out) id)
+      (one .out-silent id (k .1)) (by-return (did-now [] t c a)) (only c) time (b .to-come) (w .ahead) _
     where
       only :
           t .call ≡ event (E.Return (b .number) id time v) →
@@ -279,7 +286,8 @@ module _ {ts : List Turn} {b : Last} (w : Since ts b false) (one : OneReport b) 
       only c i s u (by-span m d) =
           let z : event (E.Return (b .number) id time v) ≡ event (E.SpanEnd i s u) = sym c ∙ did-one t d .0 in clash (cc)
 
-  module _ (id time : ℕ) (v : Float) (is : t .call ≡ event (E.SpanEnd id time v)) (x : plan.Step) (xs : List plan.Step) (e : b .to-come ≡ x ∷ xs) (named : x .id ≡ id) where
+  module _ (id time : ℕ) (v : Float) (is : t .call ≡ event (E.SpanEnd id time v)) (x : plan.Step) (xs : List plan.Step) (e : b .to-come ≡ x ∷ xs)
+      (named : x .id ≡ id) where
     ahead : List·Memᴰ x (w .steps) × All (λ (y : plan.Step). List·Memᴰ y (w .steps)) xs
     ahead = subst (All (λ (y : plan.Step). List·Memᴰ y (w .steps))) e (w .ahead)
 
@@ -295,15 +303,15 @@ module _ {ts : List Turn} {b : Last} (w : Since ts b false) (one : OneReport b) 
         let same : x .id ≡ i = let q : id ≡ i = cc in named ∙ q in
         ((same, cc, cc), ap (λ (y : plan.Step). y .away) (one-step (w .steps) differ (ahead .0) m same))
 
-    span-on : (away : Bool) → x .away ≡ away →
-        Since (ts ++ (t ∷ []))
-        (since b time xs (cond away (x .id ∷ b .out) (b .out)) (cond away (b .reports) (record { job = x .id; time = time; value = v } ∷ b .reports))) false
+    span-on : (away : Bool) → x .away ≡ away → Since (ts ++ (t ∷ [])) (spanEnded b time v (x ∷ xs)) false
     span-on true q =
-        still w t (no-begin t (E.SpanEnd id time v) is) (other-close (E.SpanEnd id time v) is (λ s z. clash (cc)))
-        (λ i s u r. false-true (sym (only i s u r .1) ∙ q)) time xs (ahead .1) (x .id ∷ b .out)
+        rw q
+        (still w t (no-begin t (E.SpanEnd id time v) is) (other-close (E.SpanEnd id time v) is (λ s z. clash (cc)))
+        (λ i s u r. false-true (sym (only i s u r .1) ∙ q)) time xs (ahead .1) (x .id ∷ b .out))
     span-on false q =
-        more w t (no-begin t (E.SpanEnd id time v) is) (other-close (E.SpanEnd id time v) is (λ s z. clash (cc))) (x .id) time v
-        (one .next-silent x xs e) (by-span here (did-now [] t (rw named is) a)) (λ i s u r. only i s u r .0) time xs (ahead .1) (b .out)
+        rw q
+        (more w t (no-begin t (E.SpanEnd id time v) is) (other-close (E.SpanEnd id time v) is (λ s z. clash (cc))) (x .id) time v
+        (one .next-silent x xs e) (by-span here (did-now [] t (rw named is) a)) (λ i s u r. only i s u r .0) time xs (ahead .1) (b .out))
       where
         here : List·Memᴰ (record { id = x .id; away = false }) (w .steps)
         here = subst (λ (y : plan.Step). List·Memᴰ y (w .steps)) (λ i. record { id = x .id; away = q i }) (ahead .0)
@@ -345,7 +353,9 @@ module _ (table s : List ℕ) (above : Bool) where
   fails : {P : Type 0} (r : Refusal) → isAccepted (says (refusalSays r)) ≡ true → P
   fails r a = absurd (refused-not r a)
 
-  plan-bytes : (j : JobTable) → readTable table ≡ accepted j → (o : Outcome (List plan.Step)) → readPlan s ≡ o → isAccepted (begins (afterPlan j o) above) ≡ true → Bytes table s
+  plan-bytes :
+      (j : JobTable) → readTable table ≡ accepted j → (o : Outcome (List plan.Step)) → readPlan s ≡ o →
+      isAccepted (begins (afterPlan j o) above) ≡ true → Bytes table s
   plan-bytes j e (accepted xs) q a = record { jobs = j; is-table = e; steps = xs; is-plan = q }
   plan-bytes j e (outcome.refused r) q a = fails r a
 
@@ -357,7 +367,8 @@ module _ (table s : List ℕ) (above : Bool) where
   unfolding checkPlan
   begin-bytes = table-bytes (readTable table) refl
 
-module _ (ts : List Turn) (h : History) (t : Turn) (table s : List ℕ) (number : ℕ) (is : t .call ≡ begin table s number) (a : isAccepted (t .said) ≡ true) where
+module _ (ts : List Turn) (h : History) (t : Turn) (table s : List ℕ) (number : ℕ) (is : t .call ≡ begin table s number)
+    (a : isAccepted (t .said) ≡ true) where
   opens-on : Bytes table s → Traced (ts ++ (t ∷ [])) (opens number (readTable table) (readPlan s) h)
   unfolding reportOf
   opens-on w =
@@ -396,7 +407,9 @@ module _ (ts : List Turn) where
       still w t (q .no-first) (q .closes-not) (λ id time v r. q .reports-not r) (b .clock) (b .to-come) (w .ahead) (b .out)
 
   -- once closed, only a read is accepted
-  closed-on : (b : Last) → Since ts b true → (t : Turn) (e : Event) → t .call ≡ event e → t .said ≡ reply (closed b) (event e) → isAccepted (t .said) ≡ true → Since (ts ++ (t ∷ [])) b true
+  closed-on :
+      (b : Last) → Since ts b true → (t : Turn) (e : Event) → t .call ≡ event e → t .said ≡ reply (closed b) (event e) → isAccepted (t .said) ≡ true →
+      Since (ts ++ (t ∷ [])) b true
   closed-on b w t E.Next is said a = absurd (false-true (ap isAccepted (sym said) ∙ a))
   closed-on b w t (E.SpanEnd id time v) is said a = absurd (false-true (ap isAccepted (sym said) ∙ a))
   closed-on b w t (E.Return n id time v) is said a = absurd (false-true (ap isAccepted (sym said) ∙ a))
@@ -405,12 +418,14 @@ module _ (ts : List Turn) where
       let q = read-idle t id is in
       still w t (q .no-first) (q .closes-not) (λ i time v r. q .reports-not r) (b .clock) (b .to-come) (w .ahead) (b .out)
 
-  accepted-on : (h : History) → Traced ts h → Clear h → (t : Turn) (c : Call) → t .call ≡ c → t .said ≡ reply h c → isAccepted (t .said) ≡ true → Traced (ts ++ (t ∷ [])) (accepts h c)
+  accepted-on :
+      (h : History) → Traced ts h → Clear h → (t : Turn) (c : Call) → t .call ≡ c → t .said ≡ reply h c → isAccepted (t .said) ≡ true →
+      Traced (ts ++ (t ∷ [])) (accepts h c)
   accepted-on idle w one t (begin table s n) is said a = opens-on ts idle t table s n is a (begin-bytes table s true (rw (← said) a))
   accepted-on idle w one t (event e) is said a = absurd (false-true (ap isAccepted (sym said) ∙ a))
   accepted-on (opened b) w one t (begin table s n) is said a = absurd (false-true (ap isAccepted (sym said) ∙ a))
   accepted-on (opened b) w one t (event e) is said a = event-on w one t a e is said
-  accepted-on (closed b) w one t (begin table s n) is said a = opens-on ts (closed b) t table s n is a (begin-bytes table s (ltb (b .number) n) (rw (← said) a))
+  accepted-on (closed b) w one t (begin table s n) is said a = opens-on ts (closed b) t table s n is a (begin-bytes table s _ (ap isAccepted (sym said) ∙ a))
   accepted-on (closed b) w one t (event e) is said a = closed-on b w t e is said a
 
   pub turn-on : (h : History) → Traced ts h → Clear h → (t : Turn) → t .said ≡ reply h (t .call) → Traced (ts ++ (t ∷ [])) (told h (t .call) (t .said))

@@ -29,7 +29,8 @@ use Rattle.judge.specs.Check.{jobOf, afterPlan, afterTable, checkPlan}
 use Rattle.frame.specs.Finite.{finite?}
 use Rattle.frame.specs.Sound as S
 use Rattle.frame.specs.Sound.{entryAt, entryId, open?, begun?, ready?}
-use Rattle.frame.specs.Step.{Said, says, answerSays, refused, judge, moved, whereIs, panelEntry, spanAt, spanStep, backAt, backTo, backStep, closeStep, readingOf, readAt, readOf, nextOf}
+use Rattle.frame.specs.Step.{Reply, says, answerSays, refused, judge, moved, whereIs, panelEntry, spanAt, spanStep, backAt, backTo, backStep}
+use Rattle.frame.specs.Step.{closeStep, readingOf, readAt, readOf, nextOf}
 use Rattle.frame.specs.Step as step
 use Rattle.frame.specs.Begin.{stepsIn, begun, mayOpen, beginChecked, beginRead, beginStep}
 use Rattle.frame.specs.Run.{Call, begin, event, stepOf}
@@ -48,23 +49,25 @@ use Rattle.frame.specs.declared.Step.{Step}
 use Rattle.frame.proofs.Laws.{false-true, first-below, first-has, first-some}
 use Rattle.frame.proofs.Passed.{Passed, passed}
 use Rattle.frame.proofs.Reached.{Fine}
-use Rattle.frame_promises.specs.History.{Report, Last, History, idle, opened, closed, done, refuse, begins, nexts, onClock, valued, spanEnds, returns, closes, reading, readIn, reads, inOpen, inClosed, reply, opens, accepts, isAccepted, told, reportOf}
+use Rattle.frame_promises.specs.History.{Report, Last, History, idle, opened, closed, done, refuse, begins, nexts, onClock, valued, spanEnds}
+use Rattle.frame_promises.specs.History.{returns, closes, reading, readIn, reads, inOpen, inClosed, reply, opens, accepts, isAccepted, told}
+use Rattle.frame_promises.specs.History.{reportOf}
 use Rattle.frame_promises.proofs.Laws.{refused-told, in-table, not-in-table, drop-all}
 use Rattle.frame_promises.proofs.Since.{Clear}
 use Rattle.frame_promises.proofs.Agrees.{Stood, Agrees, Tells, silent, goes-out, has-value, comes-back, is-closed, begun-agrees}
 
 -- a step fits a reply: it is what the answer says, and the record after it is that of the history after it
-abbrev pub Fits : Call → History → Step → Said → Type 0
+abbrev pub Fits : Call → History → Step → Reply → Type 0
 Fits c h s r = (answerSays (s .answer) ≡ r) × Tells (s .frame) (told h c r)
 
 module _ (c : Call) (h : History) where
   -- the same test of a step and of a reply
-  same : (w : Bool) (x y : Step) (p q : Said) → (w ≡ true → Fits c h x p) → (w ≡ false → Fits c h y q) → Fits c h (cond w x y) (cond w p q)
+  same : (w : Bool) (x y : Step) (p q : Reply) → (w ≡ true → Fits c h x p) → (w ≡ false → Fits c h y q) → Fits c h (cond w x y) (cond w p q)
   same true x y p q f g = f refl
   same false x y p q f g = g refl
 
   both :
-      (w z : Bool) → w ≡ z → (x y : Step) (p q : Said) → (w ≡ true → Fits c h x p) → (w ≡ false → Fits c h y q) →
+      (w z : Bool) → w ≡ z → (x y : Step) (p q : Reply) → (w ≡ true → Fits c h x p) → (w ≡ false → Fits c h y q) →
       Fits c h (cond w x y) (cond z p q)
   both w z e x y p q f g = rw (← e) (same w x y p q f g)
 
@@ -96,7 +99,7 @@ module _ (f : Frame) (fine : Fine f) where
 
   -- ---- a read
 
-  module _ (b : Last) (a : Agrees f b) (unreported : Said) (says-so : answerSays (Read (step.unreported (f .phase))) ≡ unreported) where
+  module _ (b : Last) (a : Agrees f b) (unreported : Reply) (says-so : answerSays (Read (step.unreported (f .phase))) ≡ unreported) where
     heard :
         (p : Phase) (x : Report) (w : Bool) →
         answerSays (Read (readingOf p (cond w (stands.Held (record { value = x .value; frame = b .number })) stands.Late))) ≡
@@ -139,15 +142,15 @@ module _ (f : Frame) (fine : Fine f) where
     refuses : (c : Call) (r : Refusal) → Fits c H (refused r f) (says (refusalSays r))
     refuses c r = (refl, rw (refused-told H c r) (is, a))
 
-    clock : (c : Call) (t : ℕ) (x : Step) (p : Said) → Fits c H x p → Fits c H (step.onClock f t x) (onClock b t p)
+    clock : (c : Call) (t : ℕ) (x : Step) (p : Reply) → Fits c H x p → Fits c H (step.onClock f t x) (onClock b t p)
     clock c t x p e = both c H (ltb t (f .clock)) (ltb t (b .clock)) (ap (ltb t) (a .clocked)) _ _ _ _ (λ _. refuses c R.Clock) (λ _. e)
 
     -- a call that only asks changes nothing, whatever it is answered
-    unchanged : (c : Call) → accepts H c ≡ H → (r : Said) (w : Bool) → isAccepted r ≡ w → Tells f (cond w (accepts H c) H)
+    unchanged : (c : Call) → accepts H c ≡ H → (r : Reply) (w : Bool) → isAccepted r ≡ w → Tells f (cond w (accepts H c) H)
     unchanged c e r true q = rw e (is, a)
     unchanged c e r false q = (is, a)
 
-    asked : (g : Answer) (r : Said) → answerSays g ≡ r → (e : Event) → accepts H (event e) ≡ H → Fits (event e) H (step.asked f g) r
+    asked : (g : Answer) (r : Reply) → answerSays g ≡ r → (e : Event) → accepts H (event e) ≡ H → Fits (event e) H (step.asked f g) r
     asked g r said e stays = (said, unchanged (event e) stays r (isAccepted r) refl)
 
     -- what is to come, by whether a job is on the panel
@@ -185,7 +188,9 @@ module _ (f : Frame) (fine : Fine f) where
             (λ _. (refl, rw (e, w) (is, has-value f fine o b a h t v xs rest (x .id) named)))
             (λ _. refuses C R.Value))
 
-        on-it : panelEntry f .away ≡ x .away → Fits C H (cond (eqb (panelEntry f .id) id) (spanAt f t v (panelEntry f .away)) (refused R.Who f)) (spanEnds (x ∷ xs) id v)
+        on-it :
+            panelEntry f .away ≡ x .away →
+            Fits C H (cond (eqb (panelEntry f .id) id) (spanAt f t v (panelEntry f .away)) (refused R.Who f)) (spanEnds (x ∷ xs) id v)
         on-it away =
             both C H (eqb (panelEntry f .id) id) (eqb (x .id) id) (ap (λ (i : ℕ). eqb i id) named) _ _ _ _
             (λ _. span-at (panelEntry f .away) (sym away)) (λ _. refuses C R.Who)
@@ -212,7 +217,7 @@ module _ (f : Frame) (fine : Fine f) where
       taken :
           (i : ℕ) → i < f .count → entryAt (f .entries) i .id ≡ id →
           Fits B H (step.done (moved f i t (f .next) (judge v (f .number) t (f .deadline)))) done
-      taken i h named = (refl, (is, comes-back f fine o b a i h id t v named))
+      taken i h named = (refl, comes-back f fine o b a is i h n id t v named)
 
       -- one that is not out is refused WHO
       heard-of :
@@ -221,7 +226,7 @@ module _ (f : Frame) (fine : Fine f) where
       heard-of i r true = refuses B R.Who
       heard-of i r false = refuses B R.Who
 
-      abbrev backReply : Said
+      abbrev backReply : Reply
       backReply = cond (used (b .out) id) (valued v) (refuse 15)
 
       back-at :
@@ -264,7 +269,7 @@ module _ (f : Frame) (fine : Fine f) where
     open-fits (E.SpanEnd id t v) = span-fits id t v
     open-fits (E.Return n id t v) = back-fits n id t v
     open-fits (E.Close t) = close-fits t
-    open-fits (E.Read id) = asked (readOf f id) _ (read-is b a (says (0 ∷ 1 ∷ [])) (rw is) id (begun-is Open is)) (E.Read id) refl
+    open-fits (E.Read id) = asked (readOf f id) _ (read-is b a _ (rw is) id (begun-is Open is)) (E.Read id) refl
 
     -- of no job that is to come or out has anything been heard
     next-silent : (x : plan.Step) (xs : List plan.Step) → b .to-come ≡ x ∷ xs → reportOf (b .reports) (x .id) ≡ none
@@ -334,7 +339,7 @@ module _ (f : Frame) (fine : Fine f) where
     abbrev no : open? f ≡ false
     no = open-is Closed (a .0)
 
-    closed-read : (r : Said) (w : Bool) → isAccepted r ≡ w → Tells f (cond w (closed b) (closed b))
+    closed-read : (r : Reply) (w : Bool) → isAccepted r ≡ w → Tells f (cond w (closed b) (closed b))
     closed-read r true e = a
     closed-read r false e = a
 
@@ -398,5 +403,5 @@ module _ (f : Frame) (fine : Fine f) where
   fits (opened b) a (begin table s n) = open-begin b a table s n
   fits (opened b) a (event e) = open-fits b (a .0) (a .1) e
   fits (closed b) a (begin table s n) =
-      begin-fits (closed b) a table s n (ltb (b .number) n) (rw (a .0, a .1 .numbered)) (ready-is Closed (a .0))
+      begin-fits (closed b) a table s n _ (rw (a .0, a .1 .numbered)) (ready-is Closed (a .0))
   fits (closed b) a (event e) = closed-fits b a e

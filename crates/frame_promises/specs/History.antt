@@ -17,7 +17,7 @@ use Rattle.judge.specs.declared.Checked.{Checked}
 use Rattle.judge.specs.declared.Checked.the-variants.{Passes, Fails}
 use Rattle.judge.specs.Check.{jobOf, checkPlan}
 use Rattle.frame.specs.Finite.{finite?}
-use Rattle.frame.specs.Step.{Said, says}
+use Rattle.frame.specs.Step.{Reply, says}
 use Rattle.frame.specs.Run.{Call, begin, event}
 use Rattle.frame.specs.declared.Event.{Event}
 use Rattle.frame.specs.declared.Event.the-variants as E
@@ -25,7 +25,7 @@ use Rattle.frame.specs.declared.Event.the-variants as E
 -- a call, with what its answer says
 pub record Turn : Type 0 where
   pub call : Call
-  pub said : Said
+  pub said : Reply
 
 -- a value that was reported for a job, and when
 pub record Report : Type 0 where
@@ -53,41 +53,41 @@ pub data History : Type 0 where
 
 -- ---- what a call is answered
 
-abbrev pub done : Said
+abbrev pub done : Reply
 done = says (0 ∷ [])
 
-abbrev pub refuse : ℕ → Said
+abbrev pub refuse : ℕ → Reply
 refuse n = says (n ∷ [])
 
 -- "Begin: PHASE if open; the check's refusals; NUMBER (never from idle)"
-abbrev pub begins : Checked → Bool → Said
+abbrev pub begins : Checked → Bool → Reply
 begins (Fails r) above = says (refusalSays r)
 begins (Passes last busy) above = cond above done (refuse 13)
 
 -- "Next: PHASE unless open; else the job now on the panel with its choice, or none left."
-abbrev pub nexts : List Step → Said
+abbrev pub nexts : List Step → Reply
 nexts [] = says (0 ∷ 0 ∷ [])
 nexts (x ∷ xs) = says (0 ∷ 1 ∷ x .id ∷ cond (x .away) 1 0 ∷ [])
 
 -- "CLOCK: time below that of the last accepted event"
-abbrev pub onClock : Last → ℕ → Said → Said
+abbrev pub onClock : Last → ℕ → Reply → Reply
 onClock b t s = cond (ltb t (b .clock)) (refuse 14) s
 
 -- "VALUE: value not a number, or infinite"
-abbrev pub valued : Float → Said
+abbrev pub valued : Float → Reply
 valued v = cond (finite? v) done (refuse 16)
 
 -- "Span end: PHASE unless open; CLOCK; WHO unless it is the job now on the panel; for a here job VALUE."
-abbrev pub spanEnds : List Step → ℕ → Float → Said
+abbrev pub spanEnds : List Step → ℕ → Float → Reply
 spanEnds [] id v = refuse 15
 spanEnds (x ∷ xs) id v = cond (eqb (x .id) id) (cond (x .away) done (valued v)) (refuse 15)
 
 -- "Return: PHASE unless open; NUMBER; CLOCK; WHO unless that job is out; VALUE."
-abbrev pub returns : Last → ℕ → ℕ → ℕ → Float → Said
+abbrev pub returns : Last → ℕ → ℕ → ℕ → Float → Reply
 returns b n id t v = cond (eqb n (b .number)) (onClock b t (cond (used (b .out) id) (valued v) (refuse 15))) (refuse 13)
 
 -- "Close: PHASE unless open; CLOCK; EARLY if time < D."
-abbrev pub closes : Last → ℕ → Said
+abbrev pub closes : Last → ℕ → Reply
 closes b t = onClock b t (cond (ltb t (b .table .deadline)) (refuse 17) done)
 
 -- "Read: PHASE if idle; WHO if not in the table; else fresh with its value, pending, late, or missing (closed, never reported)"
@@ -95,35 +95,35 @@ unfoldable pub reportOf : List Report → ℕ → Option Report
 reportOf [] id = none
 reportOf (r ∷ rs) id = cond (eqb (r .job) id) (some r) (reportOf rs id)
 
-abbrev pub fresh : ℕ → Float → Said
+abbrev pub fresh : ℕ → Float → Reply
 fresh number v = record { numbers = 0 ∷ 0 ∷ number ∷ []; float = some v }
 
-abbrev pub reading : Last → Said → Option Report → Said
+abbrev pub reading : Last → Reply → Option Report → Reply
 reading b unreported none = unreported
 reading b unreported (some r) = cond (leb (r .time) (b .table .deadline)) (fresh (b .number) (r .value)) (says (0 ∷ 2 ∷ []))
 
-abbrev pub readIn : Last → Said → ℕ → Option Job → Said
+abbrev pub readIn : Last → Reply → ℕ → Option Job → Reply
 readIn b unreported id none = refuse 15
 readIn b unreported id (some j) = reading b unreported (reportOf (b .reports) id)
 
-abbrev pub reads : Last → Said → ℕ → Said
+abbrev pub reads : Last → Reply → ℕ → Reply
 reads b unreported id = readIn b unreported id (jobOf (b .table .jobs) id)
 
-abbrev pub inOpen : Last → Event → Said
+abbrev pub inOpen : Last → Event → Reply
 inOpen b E.Next = nexts (b .to-come)
 inOpen b (E.SpanEnd id t v) = onClock b t (spanEnds (b .to-come) id v)
 inOpen b (E.Return n id t v) = returns b n id t v
 inOpen b (E.Close t) = closes b t
 inOpen b (E.Read id) = reads b (says (0 ∷ 1 ∷ [])) id
 
-abbrev pub inClosed : Last → Event → Said
+abbrev pub inClosed : Last → Event → Reply
 inClosed b E.Next = refuse 12
 inClosed b (E.SpanEnd id t v) = refuse 12
 inClosed b (E.Return n id t v) = refuse 12
 inClosed b (E.Close t) = refuse 12
 inClosed b (E.Read id) = reads b (says (0 ∷ 3 ∷ [])) id
 
-abbrev pub reply : History → Call → Said
+abbrev pub reply : History → Call → Reply
 reply idle (begin table plan number) = begins (checkPlan table plan) true
 reply idle (event e) = refuse 12
 reply (opened b) (begin table plan number) = refuse 12
@@ -178,10 +178,10 @@ accepts (closed b) (event e) = closed b
 -- ---- sequences
 
 -- a call is accepted that is answered 0; a refused one changes nothing
-abbrev pub isAccepted : Said → Bool
+abbrev pub isAccepted : Reply → Bool
 isAccepted s = eqb (getD (s .numbers) 0 0) 0
 
-abbrev pub told : History → Call → Said → History
+abbrev pub told : History → Call → Reply → History
 told h c s = cond (isAccepted s) (accepts h c) h
 
 -- what turns come to, the oldest first
@@ -190,6 +190,6 @@ history h [] = h
 history h (t ∷ ts) = history (told h (t .call) (t .said)) ts
 
 -- what calls are answered, one after the other: of the calls alone
-unfoldable pub replies : History → List Call → List Said
+unfoldable pub replies : History → List Call → List Reply
 replies h [] = []
 replies h (c ∷ cs) = reply h c ∷ replies (told h c (reply h c)) cs

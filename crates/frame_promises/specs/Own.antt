@@ -16,7 +16,7 @@ use Rattle.table.specs.Tables.{JobTable, readTable}
 use Rattle.plan.specs.declared.Step.{Step}
 use Rattle.plan.specs.Plans.{readPlan}
 use Rattle.judge.specs.Check.{listed, checkedSays, checkPlan}
-use Rattle.frame.specs.Step.{Said}
+use Rattle.frame.specs.Step.{Reply}
 use Rattle.frame.specs.Run.{Call, begin, event}
 use Rattle.frame.specs.declared.Event.the-variants as E
 use Rattle.frame_promises.specs.History.{Turn, done, fresh, isAccepted}
@@ -139,8 +139,8 @@ AllDone (backs {u = u} is ended away out later p) = (u .said ≡ done) × AllDon
 -- ---- what comes of it
 
 -- after these turns the call is answered so, whatever follows
-abbrev pub Answers : List Turn → Call → Said → Type 0
-Answers ts c s = (r : Said) (rest : List Turn) → FromIdle (ts ++ (record { call = c; said = r } ∷ rest)) → r ≡ s
+abbrev pub Answers : List Turn → Call → Reply → Type 0
+Answers ts c s = (r : Reply) (rest : List Turn) → FromIdle (ts ++ (record { call = c; said = r } ∷ rest)) → r ≡ s
 
 -- every job reads fresh, with its own value and this frame's number
 abbrev pub OwnValues : ℕ → List Doing → List Turn → Type 0
@@ -157,5 +157,5 @@ pub record EachOwn (number : ℕ) (t : JobTable) (ds : List Doing) (ts : List Tu
   pub open-reads : OwnValues number ds ts
   pub closes : (time : ℕ) → t .deadline ≤ time → Answers ts (event (E.Close time)) done
   pub closed-reads :
-      (time : ℕ) → t .deadline ≤ time → (s : Said) (us : List Turn) → OnlyReads us →
+      (time : ℕ) → t .deadline ≤ time → (s : Reply) (us : List Turn) → OnlyReads us →
       OwnValues number ds (ts ++ (record { call = event (E.Close time); said = s } ∷ us))

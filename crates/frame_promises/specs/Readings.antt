@@ -10,7 +10,7 @@ use Rattle.table.specs.Refusals as outcome
 use Rattle.table.specs.Tables.{JobTable, readTable}
 use Rattle.plan.specs.declared.Step.{Step}
 use Rattle.plan.specs.Plans.{readPlan}
-use Rattle.frame.specs.Step.{Said, says}
+use Rattle.frame.specs.Step.{Reply, says}
 use Rattle.frame.specs.Run.{Call, begin, event}
 use Rattle.frame.specs.declared.Event.the-variants as E
 use Rattle.frame_promises.specs.History.{Turn, refuse, fresh, isAccepted}
@@ -55,7 +55,7 @@ abbrev pub Has : List Job → ℕ → Type 0
 Has js id = (j : Job) × List·Memᴰ j js × (j .id ≡ id)
 
 -- "Read (id): PHASE if idle; WHO if not in the table; else fresh with its value, pending, late, or missing (closed, never reported)"
-pub data ReadSays (ts : List Turn) (id : ℕ) : Said → Type 0 where
+pub data ReadSays (ts : List Turn) (id : ℕ) : Reply → Type 0 where
   never-begun : All NoBegin ts → ReadSays ts id (refuse 12)
   no-job :
       {number : ℕ} {jobs : JobTable} {steps : List Step} {since : List Turn} → LastBegin ts number jobs steps since →

@@ -7,7 +7,7 @@ use mathlib.Core.List.{List, [], _∷_, _++_}
 use lib.Ieee.{Float}
 use Rattle.model.specs.Lists.{Pairwise}
 use Rattle.frame.specs.Finite.{finite?}
-use Rattle.frame.specs.Step.{Said}
+use Rattle.frame.specs.Step.{Reply}
 use Rattle.frame.specs.Run.{Call, begin, event}
 use Rattle.frame.specs.declared.Event.the-variants as E
 use Rattle.frame_promises.specs.History.{Turn, fresh, isAccepted}
@@ -21,8 +21,8 @@ pub data Alike (job : ℕ) : Call → Call → Type 0 where
       {n t : ℕ} {v w : Float} → finite? v ≡ true → finite? w ≡ true → Alike job (event (E.Return n job t v)) (event (E.Return n job t w))
 
 -- "give the same answers but for that job's fresh readings", of which only the value may differ
-pub data SameBut (job : ℕ) : Call → Said → Said → Type 0 where
-  same-answer : {c : Call} {s : Said} → SameBut job c s s
+pub data SameBut (job : ℕ) : Call → Reply → Reply → Type 0 where
+  same-answer : {c : Call} {s : Reply} → SameBut job c s s
   other-value : {n : ℕ} {v w : Float} → SameBut job (event (E.Read job)) (fresh n v) (fresh n w)
 
 pub data AllAlike (job : ℕ) : List Turn → List Turn → Type 0 where

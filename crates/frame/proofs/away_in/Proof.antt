@@ -25,7 +25,8 @@ unfolding awayIn
 returns c =
     let at = sym (c .before .before .before .before .step-of .ensures) ∙ c .before .before .found .given .1 in
     let inside = first-below _ _ _ _ 0 _ _ at in
-    simp (at, c .step-at .ensures, step-in (c .before .before .before .before .before .before .args .plan .now) (c .before .before .found .given .0 .0) (omega (arith, inside)))
+    let plan = c .before .before .before .before .before .before .args .plan .now in
+    simp (at, c .step-at .ensures, step-in plan (c .before .before .found .given .0 .0) (omega (arith, inside)))
 
 returns-2 : tie.Need-returns-2
 unfolding awayIn

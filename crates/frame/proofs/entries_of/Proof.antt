@@ -15,7 +15,8 @@ use Rattle.frame.proofs.entries_of.Statement.{statement}
 use Rattle.frame.proofs.entries_of.Tie as tie
 
 abbrev Inv-loop : tie.InvT-loop
-Inv-loop plan t count entries₀ i₀ entries i = (i ≤ count) × (entries ≡ filled none (λ (k : ℕ). entryOf (stepsIn (readPlan plan)) count (getD (take count (t .jobs)) k noJob)) i)
+Inv-loop plan t count entries₀ i₀ entries i =
+    (i ≤ count) × (entries ≡ filled none (λ (k : ℕ). entryOf (stepsIn (readPlan plan)) count (getD (take count (t .jobs)) k noJob)) i)
 
 abbrev μ-loop : tie.MeasureT-loop
 μ-loop plan t count entries₀ i₀ entries i = count - i

@@ -14,7 +14,8 @@ use Rattle.frame.proofs.step_of.Statement.{statement}
 use Rattle.frame.proofs.step_of.Tie as tie
 
 abbrev Inv-loop : tie.InvT-loop
-Inv-loop plan count id k₀ k = (k ≤ count) × (first stepId noStep (stepsIn (readPlan plan)) id 0 count ≡ first stepId noStep (stepsIn (readPlan plan)) id k (count - k))
+Inv-loop plan count id k₀ k =
+    (k ≤ count) × (first stepId noStep (stepsIn (readPlan plan)) id 0 count ≡ first stepId noStep (stepsIn (readPlan plan)) id k (count - k))
 
 abbrev μ-loop : tie.MeasureT-loop
 μ-loop plan count id k₀ k = count - k

@@ -39,15 +39,19 @@ refuse-requires-2 c κs = search needs
 returns-2 : tie.Need-returns-2
 unfolding beginStep
 returns-2 c =
-    let whole = read-whole (now (c .before .before .before .before .before .before .before .before .args .table)) _ (c .before .before .before .read-table .ensures) (c .before .enum-told .given .1) in
+    let r = c .before .before .before in
+    let whole = read-whole (now (r .before .before .before .before .before .args .table)) _ (r .read-table .ensures) (c .before .enum-told .given .1) in
     let ready = is-ready _ _ (c .before .before .before .before .before .is-in .ensures) ∙ not-false _ (c .before .before .before .before .if1 .left) in
     simp (ready, whole .is) (c .begin-read .ensures)
 
 returns-3 : tie.Need-returns-3
 unfolding beginStep
 returns-3 c =
-    let ready = is-ready _ _ (c .before .before .before .before .before .before .is-in .ensures) ∙ not-false _ (c .before .before .before .before .before .if1 .left) in
-    let bad = read-refused (now (c .before .before .before .before .before .before .before .before .before .args .table)) _ (c .before .before .before .before .read-table .ensures) _ (c .before .before .verdict .given .1) in
+    let i = c .before .before .before .before .before in
+    let ready = is-ready _ _ (i .before .is-in .ensures) ∙ not-false _ (i .if1 .left) in
+    let r = c .before .before .before .before in
+    let table = now (r .before .before .before .before .before .args .table) in
+    let bad = read-refused table _ (r .read-table .ensures) _ (c .before .before .verdict .given .1) in
     simp (ready, bad) (c .refuse2 .ensures)
 
 pub begin-spec : {M : Type 1} → statement M

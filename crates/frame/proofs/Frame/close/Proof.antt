@@ -45,8 +45,9 @@ returns-3 c =
 returns-4 : tie.Need-returns-4
 unfolding closeStep
 returns-4 c =
+    let i = c .before .before .before .before .before .before in
     simp (
-      is-open _ _ (c .before .before .before .before .before .before .before .is-in .ensures) ∙ not-false _ (c .before .before .before .before .before .before .if1 .left),
+      is-open _ _ (i .before .is-in .ensures) ∙ not-false _ (i .if1 .left),
       le-ltb _ _ (c .before .before .before .before .if2 .left),
       le-ltb _ _ (c .before .before .if3 .left),
     )

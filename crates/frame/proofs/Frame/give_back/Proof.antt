@@ -44,7 +44,9 @@ returns-3 c =
     (c .refuse3 .ensures)
 
 find-in-requires : tie.Need-find-in-requires
-find-in-requires c κs = open-fits _ (is-open _ _ (c .before .before .before .before .before .is-in .ensures) ∙ not-false _ (c .before .before .before .before .if1 .left))
+find-in-requires c κs =
+    let i = c .before .before .before .before in
+    open-fits _ (is-open _ _ (i .before .is-in .ensures) ∙ not-false _ (i .if1 .left))
 
 enum-known-found : tie.Need-enum-known-found
 enum-known-found c = search needs
@@ -52,28 +54,33 @@ enum-known-found c = search needs
 mul-e : tie.Need-mul-e
 mul-e c =
     let at = sym (c .before .before .before .find-in .ensures) ∙ c .before .found .given .1 in
-    let opened = is-open _ _ (c .before .before .before .before .before .before .before .before .before .is-in .ensures) ∙ not-false _ (c .before .before .before .before .before .before .before .before .if1 .left) in
+    let i = c .before .before .before .before .before .before .before .before in
+    let opened = is-open _ _ (i .before .is-in .ensures) ∙ not-false _ (i .if1 .left) in
     omega (arith, open-fits _ opened, first-below _ _ _ _ 0 _ _ at)
 
 array-copy-out-e : tie.Need-array-copy-out-e
 array-copy-out-e c =
     let at = sym (c .before .before .before .find-in .ensures) ∙ c .before .found .given .1 in
-    let opened = is-open _ _ (c .before .before .before .before .before .before .before .before .before .is-in .ensures) ∙ not-false _ (c .before .before .before .before .before .before .before .before .if1 .left) in
+    let i = c .before .before .before .before .before .before .before .before in
+    let opened = is-open _ _ (i .before .is-in .ensures) ∙ not-false _ (i .if1 .left) in
     omega (arith, open-fits _ opened, first-below _ _ _ _ 0 _ _ at)
 
 back-at-requires : tie.Need-back-at-requires
 back-at-requires c κs =
     let at = sym (c .before .before .before .before .find-in .ensures) ∙ c .before .before .found .given .1 in
-    let opened = is-open _ _ (c .before .before .before .before .before .before .before .before .before .before .is-in .ensures) ∙ not-false _ (c .before .before .before .before .before .before .before .before .before .if1 .left) in
+    let i = c .before .before .before .before .before .before .before .before .before in
+    let opened = is-open _ _ (i .before .is-in .ensures) ∙ not-false _ (i .if1 .left) in
     omega (arith, open-fits _ opened, first-below _ _ _ _ 0 _ _ at)
 
 returns-4 : tie.Need-returns-4
 unfolding whereIs backStep
 returns-4 c =
-    let opened = is-open _ _ (c .before .before .before .before .before .before .before .before .before .before .before .is-in .ensures) ∙ not-false _ (c .before .before .before .before .before .before .before .before .before .before .if1 .left) in
+    let i = c .before .before .before .before .before .before .before .before .before .before in
+    let opened = is-open _ _ (i .before .is-in .ensures) ∙ not-false _ (i .if1 .left) in
     let number = eq-eqb _ _ (c .before .before .before .before .before .before .before .before .if2 .left) in
     let clock = le-ltb _ _ (c .before .before .before .before .before .before .before .if3 .left) in
-    simp (opened, number, clock, sym (c .before .before .before .before .before .find-in .ensures) ∙ c .before .before .before .found .given .1) (c .back-at .ensures)
+    let found = sym (c .before .before .before .before .before .find-in .ensures) ∙ c .before .before .before .found .given .1 in
+    simp (opened, number, clock, found) (c .back-at .ensures)
 
 enum-told : tie.Need-enum-told
 enum-told c = search needs
@@ -84,7 +91,8 @@ refuse-requires-4 c κs = search needs
 returns-5 : tie.Need-returns-5
 unfolding whereIs backStep
 returns-5 c =
-    let opened = is-open _ _ (c .before .before .before .before .before .before .before .before .before .is-in .ensures) ∙ not-false _ (c .before .before .before .before .before .before .before .before .if1 .left) in
+    let i = c .before .before .before .before .before .before .before .before in
+    let opened = is-open _ _ (i .before .is-in .ensures) ∙ not-false _ (i .if1 .left) in
     let number = eq-eqb _ _ (c .before .before .before .before .before .before .if2 .left) in
     let clock = le-ltb _ _ (c .before .before .before .before .before .if3 .left) in
     simp (opened, number, clock, sym (c .before .before .before .find-in .ensures) ∙ c .before .enum-told .given .1) (c .refuse4 .ensures)

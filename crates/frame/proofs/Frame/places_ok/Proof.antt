@@ -56,7 +56,9 @@ array-read-if3 c = search needs
 returns-3 : tie.Need-returns-3 Inv-loop μ-loop
 returns-3 c =
     let l = c .before .before .before .before .before .before .before .loop in
-    id-again (c .before .before .before .before .before .before .before .before .pre) (l .inv) (c .before .before .before .before .before .before .loop-test .taken) (omega arith) (c .before .before .before .if2 .left) (search needs) (c .if3 .taken)
+    let q = c .before .before .before in
+    let w = q .before .before .before in
+    id-again (w .before .before .pre) (l .inv) (w .loop-test .taken) (omega arith) (q .if2 .left) (search needs) (c .if3 .taken)
 
 array-write-ids : tie.Need-array-write-ids Inv-loop μ-loop
 array-write-ids c = search needs
@@ -73,7 +75,11 @@ entry-ok-requires c κs = search needs
 returns-4 : tie.Need-returns-4 Inv-loop μ-loop
 returns-4 c =
     let l = c .before .before .before .before .before .before .before .before .before .before .loop in
-    badly (c .before .before .before .before .before .before .before .before .before .before .before .pre) (l .inv) (c .before .before .before .before .before .before .before .before .before .loop-test .taken) (omega arith) (c .before .before .before .before .before .before .if2 .left) (search needs) (c .before .before .before .if3 .left) (sym (c .before .entry-ok .ensures) ∙ not-true _ (c .if4 .taken))
+    let r = c .before .before .before in
+    let q = r .before .before .before in
+    let w = q .before .before .before in
+    badly (w .before .before .pre) (l .inv) (w .loop-test .taken)
+    (omega arith) (q .if2 .left) (search needs) (r .if3 .left) (sym (c .before .entry-ok .ensures) ∙ not-true _ (c .if4 .taken))
 
 add-k : tie.Need-add-k Inv-loop μ-loop
 add-k c = search needs
@@ -84,7 +90,11 @@ loop-less c = search needs
 loop-again : tie.Need-loop-again Inv-loop μ-loop
 loop-again c =
     let l = c .before .before .before .before .before .before .before .before .before .before .loop in
-    onward (c .before .before .before .before .before .before .before .before .before .before .before .pre) (l .inv) (c .before .before .before .before .before .before .before .before .before .loop-test .taken) (omega arith) (c .before .before .before .before .before .before .if2 .left) (search needs) (c .before .before .before .if3 .left) (sym (c .before .entry-ok .ensures) ∙ not-false _ (c .if4 .left))
+    let r = c .before .before .before in
+    let q = r .before .before .before in
+    let w = q .before .before .before in
+    onward (w .before .before .pre) (l .inv) (w .loop-test .taken)
+    (omega arith) (q .if2 .left) (search needs) (r .if3 .left) (sym (c .before .entry-ok .ensures) ∙ not-false _ (c .if4 .left))
 
 returns-5 : tie.Need-returns-5 Inv-loop μ-loop
 returns-5 c = gone (c .before .loop .inv) (omega arith)

@@ -24,13 +24,15 @@ enum-known-found c = search needs
 mul-e : tie.Need-mul-e
 mul-e c =
     let at = sym (c .before .before .before .find-in .ensures) ∙ c .before .found .given .1 in
-    let begun = is-begun _ _ (c .before .before .before .before .before .before .is-in .ensures) ∙ not-false _ (c .before .before .before .before .before .if1 .left) in
+    let i = c .before .before .before .before .before in
+    let begun = is-begun _ _ (i .before .is-in .ensures) ∙ not-false _ (i .if1 .left) in
     omega (arith, begun-fits _ begun, first-below _ _ _ _ 0 _ _ at)
 
 array-copy-out-e : tie.Need-array-copy-out-e
 array-copy-out-e c =
     let at = sym (c .before .before .before .find-in .ensures) ∙ c .before .found .given .1 in
-    let begun = is-begun _ _ (c .before .before .before .before .before .before .is-in .ensures) ∙ not-false _ (c .before .before .before .before .before .if1 .left) in
+    let i = c .before .before .before .before .before in
+    let begun = is-begun _ _ (i .before .is-in .ensures) ∙ not-false _ (i .if1 .left) in
     omega (arith, begun-fits _ begun, first-below _ _ _ _ 0 _ _ at)
 
 reading-of-requires : tie.Need-reading-of-requires
@@ -39,8 +41,9 @@ reading-of-requires c κs = search needs
 returns-2 : tie.Need-returns-2
 unfolding whereIs readOf
 returns-2 c =
+    let i = c .before .before .before .before .before .before .before in
     simp (
-      is-begun _ _ (c .before .before .before .before .before .before .before .before .is-in .ensures) ∙ not-false _ (c .before .before .before .before .before .before .before .if1 .left),
+      is-begun _ _ (i .before .is-in .ensures) ∙ not-false _ (i .if1 .left),
       sym (c .before .before .before .before .before .find-in .ensures) ∙ c .before .before .before .found .given .1,
       c .reading-of .ensures,
     )

@@ -38,28 +38,32 @@ element-copy-out-at c = omega (arith, open-fits _ (is-open _ _ (c .before .befor
 
 mul-e : tie.Need-mul-e
 mul-e c =
+    let i = c .before .before .before in
     omega (
       arith,
-      open-place _ (is-open _ _ (c .before .before .before .before .is-in .ensures) ∙ not-false _ (c .before .before .before .if1 .left)) (c .before .if3 .taken),
+      open-place _ (is-open _ _ (i .before .is-in .ensures) ∙ not-false _ (i .if1 .left)) (c .before .if3 .taken),
     )
 
 element-copy-out-e : tie.Need-element-copy-out-e
 element-copy-out-e c =
+    let i = c .before .before .before in
     omega (
       arith,
-      open-place _ (is-open _ _ (c .before .before .before .before .is-in .ensures) ∙ not-false _ (c .before .before .before .if1 .left)) (c .before .if3 .taken),
+      open-place _ (is-open _ _ (i .before .is-in .ensures) ∙ not-false _ (i .if1 .left)) (c .before .if3 .taken),
     )
 
 span-at-requires : tie.Need-span-at-requires
 span-at-requires c κs =
-    let opened = is-open _ _ (c .before .before .before .before .before .before .before .is-in .ensures) ∙ not-false _ (c .before .before .before .before .before .before .if1 .left) in
+    let i = c .before .before .before .before .before .before in
+    let opened = is-open _ _ (i .before .is-in .ensures) ∙ not-false _ (i .if1 .left) in
     (omega (arith, open-fits _ opened), open-place _ opened (c .before .before .before .before .if3 .taken), refl)
 
 returns-3 : tie.Need-returns-3
 unfolding spanStep
 returns-3 c =
+    let i = c .before .before .before .before .before .before .before in
     simp (
-      is-open _ _ (c .before .before .before .before .before .before .before .before .is-in .ensures) ∙ not-false _ (c .before .before .before .before .before .before .before .if1 .left),
+      is-open _ _ (i .before .is-in .ensures) ∙ not-false _ (i .if1 .left),
       le-ltb _ _ (c .before .before .before .before .before .before .if2 .left),
       lt-ltb _ _ (c .before .before .before .before .before .if3 .taken),
       eq-eqb _ _ (c .before .if4 .taken),
@@ -72,8 +76,9 @@ refuse-requires-3 c κs = search needs
 returns-4 : tie.Need-returns-4
 unfolding spanStep
 returns-4 c =
+    let i = c .before .before .before .before .before .before .before in
     simp (
-      is-open _ _ (c .before .before .before .before .before .before .before .before .is-in .ensures) ∙ not-false _ (c .before .before .before .before .before .before .before .if1 .left),
+      is-open _ _ (i .before .is-in .ensures) ∙ not-false _ (i .if1 .left),
       le-ltb _ _ (c .before .before .before .before .before .before .if2 .left),
       lt-ltb _ _ (c .before .before .before .before .before .if3 .taken),
       ne-eqb _ _ (c .before .if4 .left),
