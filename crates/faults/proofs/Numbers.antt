@@ -14,11 +14,11 @@ use Rattle.table.specs.Limits.{longestTable}
 use Rattle.table.specs.Tables.{JobTable, sendingBytes, jobBytes}
 use Rattle.plan.specs.declared.Step.{Step}
 use Rattle.faults.specs.Faults.{Unread, no-byte, not-allowed, cut, Faulty, unread, many, range, twice, after, ListFault, fault, TableFault, in-frame}
-use Rattle.faults.specs.Faults.{deadline, in-row, frameBytes, PlanFault, TableIs, Placed}
+use Rattle.faults.specs.Faults.{deadline, in-row, frameBytes, PlanFault, TableIs, FaultAt}
 use Rattle.faults.proofs.Tables.{table-flat}
 use Rattle.faults.specs.Checks.{stranger, kept, Misfit, at-step, left, late}
 
-unread-placed : {kinds : List (ℕ × ℕ)} {at : ℕ} {rest : List ℕ} {f : Refusal} → Unread kinds at rest f → (most : ℕ) → at ≤ most → Placed most (refusalSays f)
+unread-placed : {kinds : List (ℕ × ℕ)} {at : ℕ} {rest : List ℕ} {f : Refusal} → Unread kinds at rest f → (most : ℕ) → at ≤ most → FaultAt most (refusalSays f)
 unread-placed {at = at} no-byte most h = record { number = 1; place = at; says = refl; low = omega arith; high = omega arith; within = h }
 unread-placed {at = at} (not-allowed k) most h = record { number = 2; place = at; says = refl; low = omega arith; high = omega arith; within = h }
 unread-placed {at = at} (cut m k) most h = record { number = 1; place = at; says = refl; low = omega arith; high = omega arith; within = h }
@@ -27,7 +27,7 @@ module _ {A : Type 0} {idOf : A → ℕ} {bytesOf : A → List ℕ} {InRange : A
   -- a record that begins by `most`, and where it has bytes one before
   faulty-placed :
       {xs : List A} {at : ℕ} {rest : List ℕ} {f : Refusal} → Faulty idOf bytesOf InRange kinds end xs at rest f →
-      (most : ℕ) → at ≤ most → (1 ≤ length rest → at + 1 ≤ most) → Placed most (refusalSays f)
+      (most : ℕ) → at ≤ most → (1 ≤ length rest → at + 1 ≤ most) → FaultAt most (refusalSays f)
   faulty-placed (unread u) most h k = unread-placed u most h
   faulty-placed {at = at} (many x more n) most h k = record { number = 4; place = at; says = refl; low = omega arith; high = omega arith; within = h }
   faulty-placed {at = at} (range x more n o) most h k = record { number = 3; place = at; says = refl; low = omega arith; high = omega arith; within = h }
@@ -35,17 +35,17 @@ module _ {A : Type 0} {idOf : A → ℕ} {bytesOf : A → List ℕ} {InRange : A
   faulty-placed {at = at} after most h k =
       record { number = 6; place = at + 1; says = refl; low = omega arith; high = omega arith; within = k (omega arith) }
 
-  list-placed : {first s : List ℕ} {f : Refusal} → ListFault idOf bytesOf InRange kinds end first s f → Placed (length s) (refusalSays f)
+  list-placed : {first s : List ℕ} {f : Refusal} → ListFault idOf bytesOf InRange kinds end first s f → FaultAt (length s) (refusalSays f)
   list-placed {first} (fault xs rest good y) =
       let size = length-append (first ++ flatMap bytesOf xs) rest in
       faulty-placed y _ (omega arith) (λ k. omega arith)
 
-pub table-placed : {s : List ℕ} {f : Refusal} → TableFault s f → Placed (length s) (refusalSays f)
+pub table-placed : {s : List ℕ} {f : Refusal} → TableFault s f → FaultAt (length s) (refusalSays f)
 table-placed (in-frame u) = unread-placed u _ (omega arith)
 table-placed (deadline D more out) = record { number = 3; place = 0; says = refl; low = omega arith; high = omega arith; within = omega arith }
 table-placed (in-row D ok y) = list-placed y
 
-pub plan-placed : {s : List ℕ} {f : Refusal} → PlanFault s f → Placed (length s) (refusalSays f)
+pub plan-placed : {s : List ℕ} {f : Refusal} → PlanFault s f → FaultAt (length s) (refusalSays f)
 plan-placed y = list-placed y
 
 -- However long the bytes are, a table is refused at 260 at the latest: a job takes at most eight bytes, so the 33rd begins at 259 at the latest.
@@ -59,7 +59,7 @@ jobs-length [] = omega arith
 jobs-length (j ∷ js) =
     omega (arith, length-append (jobBytes j) (flatMap jobBytes js), sending-length (j .id) (j .local) (j .sending), jobs-length js)
 
-pub table-near : {s : List ℕ} {f : Refusal} → TableFault s f → Placed longestTable (refusalSays f)
+pub table-near : {s : List ℕ} {f : Refusal} → TableFault s f → FaultAt longestTable (refusalSays f)
 table-near (in-frame u) = unread-placed u longestTable (omega arith)
 table-near (deadline D more out) = record { number = 3; place = 0; says = refl; low = omega arith; high = omega arith; within = omega arith }
 table-near (in-row D ok (fault js rest good y)) =

@@ -20,7 +20,7 @@ use Rattle.plan.specs.Plans.{planRead, planReadSays}
 use Rattle.draft.specs.Drafts.{stepsFor}
 use Rattle.judge.specs.declared.Checked.{Checked}
 use Rattle.judge.specs.Check.{checkedSays}
-use Rattle.faults.specs.Faults.{Byte, TableIs, PlanIs, TableSays, a-table, table-fault, PlanSays, a-plan, plan-fault, Placed}
+use Rattle.faults.specs.Faults.{Byte, TableIs, PlanIs, TableSays, a-table, table-fault, PlanSays, a-plan, plan-fault, FaultAt}
 use Rattle.faults.specs.Checks.{RunsOnTime, PlanOf, CheckIs, no-table, no-plan, misfit, passes, CheckSays, Passed, CheckNumbers}
 use Rattle.faults.specs.Checks.{of-pass, of-table, of-plan, of-misfit}
 use Rattle.faults.specs.Allows.{TableAllows, PlanAllows, CheckAllows}
@@ -53,10 +53,10 @@ module _ (s : List ℕ) (r : TableRead) (allows : TableAllows s r) where
     table-says = exactly (TableSays s) (verdictSays (r .verdict)) something says-table
 
     -- 0, or a number from 1 to 6 and a place in the file or its length
-    pub table-number : (verdictSays (r .verdict) ≡ 0 ∷ []) ⊎ Placed (length s) (verdictSays (r .verdict))
+    pub table-number : (verdictSays (r .verdict) ≡ 0 ∷ []) ⊎ FaultAt (length s) (verdictSays (r .verdict))
     table-number = step (table-says (verdictSays (r .verdict)) .0 refl)
       where
-        step : {ns : List ℕ} → TableSays s ns → (ns ≡ 0 ∷ []) ⊎ Placed (length s) ns
+        step : {ns : List ℕ} → TableSays s ns → (ns ≡ 0 ∷ []) ⊎ FaultAt (length s) ns
         step (a-table t is) = inl refl
         step (table-fault f is) = inr (table-placed is)
 
@@ -88,10 +88,10 @@ module _ (s : List ℕ) (r : PlanRead) (allows : PlanAllows s r) where
   pub plan-says : (ns : List ℕ) → (planReadSays r ≡ ns) ↔ PlanSays s ns
   plan-says = exactly (PlanSays s) (planReadSays r) steps-or says-plan
 
-  pub plan-number : ((n : ℕ) × (planReadSays r ≡ 0 ∷ n ∷ [])) ⊎ Placed (length s) (planReadSays r)
+  pub plan-number : ((n : ℕ) × (planReadSays r ≡ 0 ∷ n ∷ [])) ⊎ FaultAt (length s) (planReadSays r)
   plan-number = step (plan-says (planReadSays r) .0 refl)
     where
-      step : {ns : List ℕ} → PlanSays s ns → ((n : ℕ) × (ns ≡ 0 ∷ n ∷ [])) ⊎ Placed (length s) ns
+      step : {ns : List ℕ} → PlanSays s ns → ((n : ℕ) × (ns ≡ 0 ∷ n ∷ [])) ⊎ FaultAt (length s) ns
       step (a-plan xs is) = inl (_, refl)
       step (plan-fault f is) = inr (plan-placed is)
 

@@ -19,7 +19,7 @@ use Rattle.draft.specs.Drafts.{stepOf, stepsFor}
 use Rattle.judge.specs.declared.Checked.{Checked}
 use Rattle.judge.specs.declared.Checked.the-variants.{Passes, Fails}
 use Rattle.judge.specs.Check.{checkedSays}
-use Rattle.faults.specs.Faults.{TableFault, PlanFault, TableIs, PlanIs, Placed}
+use Rattle.faults.specs.Faults.{TableFault, PlanFault, TableIs, PlanIs, FaultAt}
 
 -- every permitted run of the jobs, in this order and with these choices, is on time
 abbrev pub RunsOnTime : ℕ → List Chosen → Type 0
@@ -77,6 +77,6 @@ pub record Passed (s p figures : List ℕ) : Type 0 where
 -- which numbers there are: of a pass; of a fault in the table or in the plan, placed in it or at its length; of a plan that does not fit its table
 pub data CheckNumbers (s p : List ℕ) (ns : List ℕ) : Type 0 where
   of-pass : (last busy : ℕ) → ns ≡ 0 ∷ last ∷ busy ∷ [] → CheckNumbers s p ns
-  of-table : Placed (length s) ns → CheckNumbers s p ns
-  of-plan : Placed (length p) ns → CheckNumbers s p ns
+  of-table : FaultAt (length s) ns → CheckNumbers s p ns
+  of-plan : FaultAt (length p) ns → CheckNumbers s p ns
   of-misfit : (n : ℕ) → 8 ≤ n → n ≤ 11 → ns ≡ n ∷ [] → CheckNumbers s p ns

@@ -99,7 +99,7 @@ pub data PlanSays (s : List ℕ) : List ℕ → Type 0 where
   plan-fault : (f : Refusal) → PlanFault s f → PlanSays s (refusalSays f)
 
 -- "1 to 6 return number and place": the numbers of a fault, at a place of at most `most`
-pub record Placed (most : ℕ) (ns : List ℕ) : Type 0 where
+pub record FaultAt (most : ℕ) (ns : List ℕ) : Type 0 where
   pub number : ℕ
   pub place : ℕ
   pub says : ns ≡ number ∷ place ∷ []
