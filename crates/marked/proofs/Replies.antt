@@ -10,7 +10,7 @@ use Rattle.table.specs.Tables.{readTable, tableRead, verdictSays}
 use Rattle.frame.specs.declared.Event.{Event}
 use Rattle.frame.specs.declared.Event.the-variants.{Read}
 use Rattle.frame.specs.declared.Reading.{Reading}
-use Rattle.frame.specs.Step.{Said, readingSays}
+use Rattle.frame.specs.Step.{Reply, readingSays}
 use Rattle.frame.specs.Run.{Call, begin, event}
 use Rattle.frame_promises.specs.History.{Turn, History, idle, done, replies}
 use Rattle.frame_promises.specs.Runs.{FromIdle}
@@ -21,11 +21,11 @@ pub read-case : (s : List ℕ) (f : Refusal) → verdictSays (tableRead (readTab
 read-case s f e r a = ap (λ (x : TableRead). verdictSays (x .verdict)) a ∙ e
 
 -- what the last of some calls is answered
-unfoldable pub lastOf : Said → List Said → Said
+unfoldable pub lastOf : Reply → List Reply → Reply
 lastOf d [] = d
 lastOf d (x ∷ xs) = lastOf x xs
 
-lastOf-end : (d : Said) (xs : List Said) (q : Said) → lastOf d (xs ++ (q ∷ [])) ≡ q
+lastOf-end : (d : Reply) (xs : List Reply) (q : Reply) → lastOf d (xs ++ (q ∷ [])) ≡ q
 unfolding lastOf
 lastOf-end d [] q = refl
 lastOf-end d (x ∷ xs) q = lastOf-end x xs q
@@ -33,7 +33,7 @@ lastOf-end d (x ∷ xs) q = lastOf-end x xs q
 abbrev callsOf : List Turn → List Call
 callsOf ts = map (λ (t : Turn). t .call) ts
 
-abbrev saidOf : List Turn → List Said
+abbrev saidOf : List Turn → List Reply
 saidOf ts = map (λ (t : Turn). t .said) ts
 
 -- a read after a begin as frame 1 and some events

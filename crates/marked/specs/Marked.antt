@@ -21,7 +21,7 @@ use Rattle.frame.specs.declared.Event.{Event}
 use Rattle.frame.specs.declared.Event.the-variants.{SpanEnd, Return, Read}
 use Rattle.frame.specs.declared.Reading.{Reading}
 use Rattle.frame.specs.declared.Reading.the-variants.{Fresh, Late}
-use Rattle.frame.specs.Step.{Said, readingSays}
+use Rattle.frame.specs.Step.{Reply, readingSays}
 use Rattle.frame.specs.Run.{begin, event}
 use Rattle.accord.specs.Allows.{FreeAllows, GivenAllows, LeastAllows}
 use Rattle.faults.specs.Allows.{TableAllows}
@@ -52,7 +52,7 @@ Claimed s no-given = (before : List ℕ) (r : Planned) (after : List ℕ) → lo
 Claimed s (least-is d) = (r : Least) → LeastAllows s r → leastSays r ≡ 0 ∷ d ∷ []
 Claimed s (read-as f) = (r : TableRead) → TableAllows s r → verdictSays (r .verdict) ≡ refusalSays f
 Claimed s (after-events p es id r) =
-    (before : List Turn) (q : Said) → map (λ (t : Turn). t .call) before ≡ begin s p 1 ∷ map event es
+    (before : List Turn) (q : Reply) → map (λ (t : Turn). t .call) before ≡ begin s p 1 ∷ map event es
     → FromIdle (before ++ (record { call = event (Read id); said = q } ∷ [])) → q ≡ readingSays r
 
 abbrev pub Holds : Case → Type 0
