@@ -12,3 +12,4 @@ pub mod Own
 pub mod Played
 pub mod Lent
 pub mod Examples
+pub mod Records

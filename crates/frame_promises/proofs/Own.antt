@@ -3,6 +3,7 @@
 use Prim.Native.Nat.{ℕ, zero, suc, _+_, _≤_, _<_}
 use native.Mathlib.Omega.{arith}
 use mathlib.Core.Path.{_≡_, refl, sym, _∙_, ap, subst}
+use mathlib.Core.Logic.{_⊎_, inl, inr}
 use mathlib.Core.Bool.{Bool, true, false, cond}
 use mathlib.Core.List.{List, [], _∷_, _++_, append-assoc, map, List·Memᴰ, List·Memᴰ·head, List·Memᴰ·tail, Memᴰ·of-map, List·Permᴰ, Permᴰ·symm, Permᴰ·map}
 use lib.ListN.{length, getD, length-map, List·getD-map}
@@ -17,8 +18,8 @@ use Rattle.model.proofs.Lists.{clash, all-at}
 use Rattle.model.proofs.Permutations.{length-perm}
 use Rattle.model.proofs.PlanOrder.{jobOf as theJob}
 use Rattle.table.specs.declared.refusal.Refusal.the-variants as R
-use Rattle.table.specs.Refusals.{Outcome}
-use Rattle.table.specs.Tables.{JobTable}
+use Rattle.table.specs.Refusals.{Outcome, accepted}
+use Rattle.table.specs.Tables.{JobTable, readTable}
 use Rattle.table.proofs.Accepted.{accepted-good}
 use Rattle.table.proofs.Refusals.{says-not-zero}
 use Rattle.plan.specs.declared.Step.{Step}
@@ -26,9 +27,11 @@ use Rattle.plan.specs.Plans.{stepId, noStep, readPlan}
 use Rattle.draft.specs.Drafts.{stepOf, stepsFor}
 use Rattle.judge.specs.declared.Checked.{Checked}
 use Rattle.judge.specs.declared.Checked.the-variants as checked
-use Rattle.judge.specs.Check.{checkedSays, lacksOne, timed, afterPlan, checkPlan}
+use Rattle.judge.specs.Check.{checkedSays, afterPlan, checkPlan}
 use Rattle.judge.proofs.Jobs.{member-all, perm-members}
-use Rattle.judge.proofs.Runs.{pass-iff-runs, exactly-its-jobs}
+use Rattle.faults.proofs.Tables.{table-read}
+use Rattle.faults.proofs.Plans.{plan-read}
+use Rattle.faults.proofs.Says.{pass-iff-runs, pass-or-late}
 use Rattle.frame.specs.Finite.{finite?}
 use Rattle.frame.specs.Step.{Reply, says}
 use Rattle.frame.specs.Begin.{stepsIn}
@@ -56,66 +59,51 @@ module _ {table plan : List ℕ} {t : JobTable} {cs : List Chosen} (w : Planned 
   is-pass (checked.Passes l b) e = let x : l ≡ last = cc in let y : b ≡ busy-total = cc in rw (x, y)
   is-pass (checked.Fails r) e = absurd (says-not-zero r (last ∷ busy-total ∷ []) e)
 
-  judged : checkPlan table plan ≡ cond (lacksOne (t .jobs) (map stepId (w .steps))) (checked.Fails R.Left) (timed (t .deadline) cs)
-  unfolding checkPlan
-  judged = rw (w .is-table, w .is-plan, w .lists)
+  read-table : readTable table ≡ accepted t
+  read-table = table-read table (accepted t) (w .is-table)
 
-  passed-check : checkPlan table plan ≡ checked.Passes last busy-total
-  passed-check = is-pass (checkPlan table plan) passes
-
-  abbrev judgedBy : Bool → Bool → Checked
-  judgedBy b l = cond b (checked.Fails R.Left) (cond l (checked.Passes (lastFrom 0 cs) (busy cs)) (checked.Fails R.Late))
-
-  told-by : (b l : Bool) → judgedBy b l ≡ checked.Passes last busy-total → (b ≡ false) × (judgedBy b l ≡ checked.Passes (lastFrom 0 cs) (busy cs))
-  told-by true l e = clash (cc)
-  told-by false true e = (refl, refl)
-  told-by false false e = clash (cc)
-
-  abbrev lacks : Bool
-  lacks = lacksOne (t .jobs) (map stepId (w .steps))
-
-  all-listed : lacks ≡ false
-  all-listed = told-by lacks (leb (lastFrom 0 cs) (t .deadline)) (sym judged ∙ passed-check) .0
+  read-plan : readPlan plan ≡ accepted (stepsFor cs)
+  read-plan = plan-read plan (accepted (stepsFor cs)) (w .is-plan)
 
   -- "exactly when every permitted run is on time"
   on-time : (rs : List Took) → RunOf cs rs → OnTime (t .deadline) 0 rs
   on-time =
-      pass-iff-runs table plan t (w .steps) cs (w .is-table) (w .is-plan) (w .lists) all-listed .0
-      (judged ∙ told-by lacks (leb (lastFrom 0 cs) (t .deadline)) (sym judged ∙ passed-check) .1)
-
-  its-jobs : ((ps : List Chosen) × List·Permᴰ cs ps × Choice (t .jobs) ps) × (stepsFor cs ≡ w .steps)
-  its-jobs = exactly-its-jobs table plan t (w .steps) cs (w .is-table) (w .is-plan) (w .lists) all-listed
+      let one = pass-or-late table plan (checkPlan table plan) refl t cs (w .is-table) (w .is-plan) (w .exactly) in
+      pass-iff-runs table plan (checkPlan table plan) refl t cs (w .is-table) (w .is-plan) (w .exactly) .0 (said one)
+    where
+      said :
+          (checkedSays (checkPlan table plan) ≡ 0 ∷ lastFrom 0 cs ∷ busy cs ∷ []) ⊎ (checkedSays (checkPlan table plan) ≡ 11 ∷ []) →
+          checkedSays (checkPlan table plan) ≡ 0 ∷ lastFrom 0 cs ∷ busy cs ∷ []
+      said (inl e) = e
+      said (inr e) = clash (cc (sym passes ∙ e))
 
   after-plan : afterPlan t (readPlan plan) ≡ checked.Passes last busy-total
-  after-plan = rw (w .is-plan, w .lists) (sym judged ∙ passed-check)
+  unfolding checkPlan
+  after-plan = rw read-table at (is-pass (checkPlan table plan) passes)
 
-  is-passed : Passed t (w .steps)
+  is-passed : Passed t (stepsFor cs)
   is-passed =
-      subst (λ (o : Outcome (List Step)). Passed t (stepsIn o)) (w .is-plan)
-      (passed t (accepted-good table t (w .is-table)) plan last busy-total after-plan)
+      subst (λ (o : Outcome (List Step)). Passed t (stepsIn o)) read-plan
+      (passed t (accepted-good table t read-table) plan last busy-total after-plan)
 
   -- the jobs of a run are the plan's
   module _ (ds : List Doing) (run : RunOf cs (runOf ds)) where
     abbrev what : Took → Chosen
     what r = r .what
 
-    count-is : length (w .steps) ≡ length ds
-    count-is =
-        ap length (sym (its-jobs .1)) ∙ length-map cs stepOf ∙ ap length (sym (run .each)) ∙ length-map (runOf ds) what ∙
-        length-map ds (λ (d : Doing). d .took)
+    count-is : length (stepsFor cs) ≡ length ds
+    count-is = length-map cs stepOf ∙ ap length (sym (run .each)) ∙ length-map (runOf ds) what ∙ length-map ds (λ (d : Doing). d .took)
 
-    step-is : (k : ℕ) → getD (w .steps) k noStep ≡ stepOf ((doingAt ds k) .took .what)
+    step-is : (k : ℕ) → getD (stepsFor cs) k noStep ≡ stepOf ((doingAt ds k) .took .what)
     step-is k =
-        let xs : stepsFor (map what (runOf ds)) ≡ w .steps = rw (run .each) (its-jobs .1) in
+        let xs : stepsFor (map what (runOf ds)) ≡ stepsFor cs = ap stepsFor (run .each) in
         let took = List·getD-map (λ (d : Doing). d .took) ds k noDoing in
         let chosen = List·getD-map what (runOf ds) k (noDoing .took) ∙ ap what took in
         rw (← xs) (List·getD-map stepOf (map what (runOf ds)) k noChoice ∙ ap stepOf chosen)
 
     each-job : (j : Job) → List·Memᴰ j (t .jobs) → (k : ℕ) × (k < length ds) × (jobAt ds k ≡ j)
     each-job j m =
-        let r = its-jobs .0 in
-        let in-order : List·Memᴰ j (map theJob (r .0)) = subst (List·Memᴰ j) (sym (r .2 .each)) m in
-        let listed : List·Memᴰ j (map theJob cs) = member-all _ (perm-members (Permᴰ·symm (Permᴰ·map theJob (r .1)))) in-order in
+        let listed : List·Memᴰ j (map theJob cs) = member-all _ (perm-members (Permᴰ·symm (w .exactly .each))) m in
         let ran : List·Memᴰ j (map theJob (map what (runOf ds))) = subst (λ (l : List Chosen). List·Memᴰ j (map theJob l)) (sym (run .each)) listed in
         let c = Memᴰ·of-map theJob (map what (runOf ds)) ran in
         let q = Memᴰ·of-map what (runOf ds) (c .1) in
@@ -245,8 +233,9 @@ after-begin before c us = history-append idle before (c ∷ us)
 begun-is :
     {table plan : List ℕ} {t : JobTable} {cs : List Chosen} (w : Planned table plan t cs) (before : List Turn) (number : ℕ) (s : Reply) → s ≡ done →
     told (history idle before) (begin table plan number) s ≡
-    opened (record { number = number; table = t; to-come = w .steps; out = []; reports = []; clock = 0 })
-begun-is w before number s e = rw (e, w .is-table, w .is-plan)
+    opened (record { number = number; table = t; to-come = stepsFor cs; out = []; reports = []; clock = 0 })
+begun-is {table} {plan} {t} {cs} w before number s e =
+    rw (e, table-read table (accepted t) (w .is-table), plan-read plan (accepted (stepsFor cs)) (w .is-plan))
 
 -- No frame is open, the check passes and the number is above the last one begun; the jobs of the plan do what they may, with finite values;
 -- and the turns after the begin are the run's events in time order, with quiet turns between them. Then the begin is accepted, every event is
@@ -271,17 +260,17 @@ own-value {table} {plan} {t} {cs} w before number may ds run finite s {us} q tur
     λ k h. omega (arith, finish-fits (t .deadline) 0 ds (on-time w last total passes (runOf ds) run) k h) in
     let values = all-at (λ (d : Doing). finite? (d .value) ≡ true) ds noDoing finite in
     let opens = begun-is w before number s is in
-    let g = begun-goes number t (w .steps) p ds counted steps in
-    let r = runs number t (w .steps) p ds counted steps fits values q _ g (subst (λ (h : History). Replied h us) opens (replied before (c ∷ us) turns .1)) in
-    let ends = subst (Ends number t (w .steps) p ds counted steps fits values)
+    let g = begun-goes number t (stepsFor cs) p ds counted steps in
+    let r = runs number t (stepsFor cs) p ds counted steps fits values q _ g (subst (λ (h : History). Replied h us) opens (replied before (c ∷ us) turns .1)) in
+    let ends = subst (Ends number t (stepsFor cs) p ds counted steps fits values)
     (sym (after-begin before c us ∙ ap (λ (h : History). history h us) opens)) (r .1) in
     let ts = before ++ (c ∷ us) in (
       is,
       r .0,
       record {
         each = each-job w last total passes ds run;
-        open-reads = open-own number t (w .steps) p ds counted steps fits values ts ends;
-        closes = close-own number t (w .steps) p ds counted steps fits values ts ends;
-        closed-reads = closed-own number t (w .steps) p ds counted steps fits values ts ends;
+        open-reads = open-own number t (stepsFor cs) p ds counted steps fits values ts ends;
+        closes = close-own number t (stepsFor cs) p ds counted steps fits values ts ends;
+        closed-reads = closed-own number t (stepsFor cs) p ds counted steps fits values ts ends;
       },
     )

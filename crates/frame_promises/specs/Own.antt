@@ -12,10 +12,12 @@ use Rattle.model.specs.Positions.{noChoice}
 use Rattle.model.specs.Timetable.{Chosen}
 use Rattle.model.specs.Run.{Took}
 use Rattle.table.specs.Refusals.{accepted}
-use Rattle.table.specs.Tables.{JobTable, readTable}
+use Rattle.table.specs.Tables.{JobTable}
 use Rattle.plan.specs.declared.Step.{Step}
-use Rattle.plan.specs.Plans.{readPlan}
-use Rattle.judge.specs.Check.{listed, checkedSays, checkPlan}
+use Rattle.draft.specs.Drafts.{stepsFor}
+use Rattle.judge.specs.Check.{checkedSays, checkPlan}
+use Rattle.faults.specs.Faults.{TableIs, PlanIs}
+use Rattle.faults.specs.Checks.{PlanOf}
 use Rattle.frame.specs.Step.{Reply}
 use Rattle.frame.specs.Run.{Call, begin, event}
 use Rattle.frame.specs.declared.Event.the-variants as E
@@ -48,12 +50,11 @@ pub record MayBegin (ts : List Turn) (table plan : List ℕ) (number : ℕ) : Ty
 
 -- ---- what the jobs of a plan do
 
--- the bytes are the table t and a plan that lists the jobs cs of it
+-- the bytes are the table t and a plan of exactly its jobs, with the choices cs
 pub record Planned (table plan : List ℕ) (t : JobTable) (cs : List Chosen) : Type 0 where
-  pub steps : List Step
-  pub is-table : readTable table ≡ accepted t
-  pub is-plan : readPlan plan ≡ accepted steps
-  pub lists : listed (t .jobs) steps ≡ accepted cs
+  pub is-table : TableIs table (accepted t)
+  pub is-plan : PlanIs plan (accepted (stepsFor cs))
+  pub exactly : PlanOf (t .jobs) cs
 
 -- how long a job's span and its return take, and which value it has
 pub record Doing : Type 0 where

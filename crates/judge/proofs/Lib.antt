@@ -1,5 +1,4 @@
 pub mod Places
 pub mod Jobs
 pub mod Walk
-pub mod Runs
 pub mod Says
