@@ -124,14 +124,19 @@ def check_quotes(document, tree):
 
 def check_trusted(tree):
     """TRUSTED.md lists exactly the definitions that the signed statements rest on, with their lines."""
-    files, missing = trusted.believed(tree, text(trusted.DOCUMENT))
-    troubles.extend(f'{trusted.DOCUMENT}: {name} is not declared in {path}' for path, name in missing)
-    wanted = {f'{path}: {name}' for path, (names, _) in files.items() for name in names}
+    found = trusted.Believed(tree, text(trusted.DOCUMENT))
+    troubles.extend(f'{trusted.DOCUMENT}: {name} is not declared in {path}' for path, name in found.missing)
+    wanted = {f'{path}: {name}' for path, (names, _) in found.files.items() for name in names}
     compare(trusted.DOCUMENT, wanted, {f'{path}: {name}' for path, name in trusted.named(text(trusted.DOCUMENT), 'The definitions')})
-    for row in trusted.cells(section(trusted.DOCUMENT, 'The definitions'))[1:]:
-        lines = files.get('crates/' + row[0].strip(), (None, sum(n for _, n in files.values())))[1]
-        if int(row[2]) != lines:
-            troubles.append(f'{trusted.DOCUMENT}: {row[0].strip()} has {lines} lines, not {row[2].strip()}')
+    counted = {path: lines for path, (_, lines) in found.files.items()}
+    check_counts('The definitions', dict(counted, **{'crates/all': found.lines()}))
+    check_counts('The statements', found.each)
+
+
+def check_counts(heading, lines):
+    for row in cells(section(trusted.DOCUMENT, heading))[1:]:
+        if int(row[2]) != lines.get('crates/' + row[0].strip()):
+            troubles.append(f'{trusted.DOCUMENT}, {heading}: {row[0].strip()} has {lines.get("crates/" + row[0].strip())} lines, not {row[2].strip()}')
 
 
 def main():

@@ -30,30 +30,44 @@ def named(text, heading):
     return [('crates/' + row[0].strip(), name) for row in rows for name in re.findall(r'`([^`]+)`', row[1])]
 
 
-def believed(tree, text):
-    """For each file, the names of the definitions and their lines; and what is named but not declared."""
-    words, pinned, found, missing = Words(tree), set(named(text, 'What is pinned')), set(), []
-    for key in named(text, 'The statements'):
-        if key in words.at:
-            found |= words.rests_on(key[0], words.at[key].statement, pinned)
-        else:
-            missing.append(key)
-    files = {}
-    for path, name in sorted(found - pinned, key=lambda key: (key[0], words.order[key])):
-        names, lines = files.get(path, ([], 0))
-        files[path] = (names + [name], lines + words.at[path, name].lines)
-    return files, missing
+class Believed:
+    """`files`: for each file the names of the definitions and their lines; `each`: for each row of statements how many lines it rests on alone;
+    `missing`: what is named but not declared."""
+
+    def __init__(self, tree, text):
+        self.words, self.pinned, self.missing = Words(tree), set(named(text, 'What is pinned')), []
+        self.each, found = {}, set()
+        for key in named(text, 'The statements'):
+            on = self.rests_on(key)
+            found |= on
+            self.each[key[0]] = self.each.get(key[0], set()) | on
+        self.each = {path: sum(self.words.at[key].lines for key in keys) for path, keys in self.each.items()}
+        self.files = {}
+        for path, name in sorted(found, key=lambda key: (key[0], self.words.order[key])):
+            names, lines = self.files.get(path, ([], 0))
+            self.files[path] = (names + [name], lines + self.words.at[path, name].lines)
+
+    def rests_on(self, key):
+        if key not in self.words.at:
+            self.missing.append(key)
+            return set()
+        return self.words.rests_on(key[0], self.words.at[key].statement, self.pinned) - self.pinned
+
+    def lines(self):
+        return sum(lines for _, lines in self.files.values())
 
 
 def main():
     with open(os.path.join(TOP, DOCUMENT), encoding='utf-8') as f:
-        files, missing = believed(Tree(TOP), f.read())
-    print('| file | definitions | lines |')
+        found = Believed(Tree(TOP), f.read())
+    for path, lines in found.each.items():
+        print(f'{path.removeprefix("crates/")}: rests on {lines} lines')
+    print('\n| file | definitions | lines |')
     print('|---|---|---|')
-    for path, (names, lines) in files.items():
+    for path, (names, lines) in found.files.items():
         print(f'| {path.removeprefix("crates/")} | ' + ', '.join(f'`{name}`' for name in names) + f' | {lines} |')
-    print(f'| all | | {sum(lines for _, lines in files.values())} |')
-    for path, name in missing:
+    print(f'| all | | {found.lines()} |')
+    for path, name in found.missing:
         print(f'{name} is not declared in {path}')
 
 
