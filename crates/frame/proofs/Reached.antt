@@ -19,7 +19,7 @@ use Rattle.frame.specs.Finite.{finite?}
 use Rattle.frame.specs.Sound.{none, entryAt, placeAt, entryId, first, sound?, open?}
 use Rattle.frame.specs.Listed.{MayStand, planEntry, Begun, SoundIn}
 use Rattle.frame.specs.Step.{idle, judge, standing, moved, panelPlace, panelEntry, closed}
-use Rattle.frame.specs.Begin.{entryOf, entriesOf, position, stepPlace, orderOf, opened, begun}
+use Rattle.frame.specs.Begin.{entryOf, entriesOf, position, stepPlace, orderOf, begun}
 use Rattle.frame.specs.Run.{Call, stepOf, after, reached}
 use Rattle.frame.specs.declared.Phase.{Phase}
 use Rattle.frame.specs.declared.Standing.{Standing}

@@ -1,10 +1,10 @@
 -- Document 01: "No refusal .. alters the frame's record", and an unsound record "answers PHASE to every call and stays as found". Of every
 -- call and every record. Assumes nothing.
-use Prim.Native.Nat.{ℕ, _≤_}
+use Prim.Native.Nat.{_≤_}
 use native.Mathlib.Omega.{arith}
 use mathlib.Core.Path.{_≡_, refl, ap}
 use mathlib.Core.Bool.{false}
-use mathlib.Core.List.{List, [], _∷_}
+use mathlib.Core.List.{[], _∷_}
 use lib.ListN.{getD}
 use Rattle.model.proofs.Lists.{clash}
 use Rattle.table.specs.declared.refusal.Refusal.{Refusal}

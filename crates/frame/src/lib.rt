@@ -14,8 +14,8 @@ ghost use Rattle.table.specs.Tables.{Sound, jobTable};
 ghost use Rattle.plan.specs.Plans.{stepId, noStep, readPlan};
 ghost use Rattle.frame.specs.Finite.{finite?};
 ghost use Rattle.frame.specs.Sound.{none, placeAt, entryId, first, okEntry, okFrom, okBegun, sound?, phaseIn};
-ghost use Rattle.frame.specs.Step.{idle, refused, judge, moved, spanAt, spanStep, backAt, backStep, closeStep};
-ghost use Rattle.frame.specs.Step.{nextOf, unreported, readingOf, readOf, eventStep};
+ghost use Rattle.frame.specs.Step.{idle, refused, done, judge, moved, spanAt, spanStep, backAt, backStep, closed, closeStep};
+ghost use Rattle.frame.specs.Step.{asked, nextOf, unreported, readingOf, readOf, eventStep};
 ghost use Rattle.frame.specs.Begin.{stepsIn, awayIn, entriesOf, position, orderOf, begun, mayOpen, beginRead, beginStep};
 
 pub enum Phase {
@@ -279,22 +279,25 @@ fn order_of(
     order
 }
 
-// The record of a frame that opens, once its plan has passed the check.
-fn opened_with(t: Table, plan: &[u8], number: u32) -> Frame
+// A begin is accepted, once the plan has passed the check: the frame opens.
+fn opened_with(t: Table, plan: &[u8], number: u32) -> Step
     requires { ⌜ (t .count ≤ mostJobs) × (t .count ≤ length (stepsIn (readPlan (now plan)))) ⌝ }
-    ensures { λ r. ⌜ r ≡ begun number (jobTable t) (stepsIn (readPlan (now (plan .entry)))) ⌝ }
+    ensures { λ r. ⌜ r ≡ done (begun number (jobTable t) (stepsIn (readPlan (now (plan .entry))))) ⌝ }
 {
     let entries = entries_of(t, plan);
     let order = order_of(entries, t.count, plan);
-    Frame {
-        phase: Phase::Open,
-        number,
-        clock: 0,
-        deadline: t.deadline,
-        count: t.count,
-        next: 0,
-        order,
-        entries,
+    Step {
+        answer: Answer::Done,
+        frame: Frame {
+            phase: Phase::Open,
+            number,
+            clock: 0,
+            deadline: t.deadline,
+            count: t.count,
+            next: 0,
+            order,
+            entries,
+        },
     }
 }
 
@@ -328,6 +331,16 @@ impl Frame {
     {
         Step {
             answer: Answer::Refused(refusal),
+            frame: self,
+        }
+    }
+
+    // A call that only asks leaves it too.
+    fn asked(self, answer: Answer) -> Step
+        ensures { λ r. ⌜ r ≡ asked self answer ⌝ }
+    {
+        Step {
+            answer,
             frame: self,
         }
     }
@@ -434,10 +447,7 @@ impl Frame {
             Checked::Fails(f) => self.refuse(f),
             Checked::Passes { last: _, busy: _ } => {
                 if self.may_open(number) {
-                    return Step {
-                        answer: Answer::Done,
-                        frame: opened_with(t, plan, number),
-                    };
+                    return opened_with(t, plan, number);
                 }
                 self.refuse(Refusal::Number)
             }
@@ -459,10 +469,10 @@ impl Frame {
         }
     }
 
-    // The record with the job at a place of the table standing at s from now on.
-    fn with(mut self, at: usize, time: u16, next: usize, s: Standing) -> Frame
+    // An event is accepted: the job at a place of the table stands at s from now on.
+    fn done_with(mut self, at: usize, time: u16, next: usize, s: Standing) -> Step
         requires { ⌜ at < mostJobs ⌝ }
-        ensures { λ r. ⌜ r ≡ moved self at time next s ⌝ }
+        ensures { λ r. ⌜ r ≡ done (moved self at time next s) ⌝ }
     {
         let old = self.entries[at];
         self.entries[at] = Entry {
@@ -472,7 +482,10 @@ impl Frame {
         };
         self.clock = time;
         self.next = next;
-        self
+        Step {
+            answer: Answer::Done,
+            frame: self,
+        }
     }
 
     // The job now on the panel, or none left.
@@ -498,17 +511,11 @@ impl Frame {
     {
         let next = self.next + 1;
         if away {
-            return Step {
-                answer: Answer::Done,
-                frame: self.with(at, time, next, Standing::Out),
-            };
+            return self.done_with(at, time, next, Standing::Out);
         }
         if finite(value) {
             let s = judged(value, self.number, time, self.deadline);
-            return Step {
-                answer: Answer::Done,
-                frame: self.with(at, time, next, s),
-            };
+            return self.done_with(at, time, next, s);
         }
         self.refuse(Refusal::Value)
     }
@@ -544,10 +551,7 @@ impl Frame {
             Standing::Out => {
                 if finite(value) {
                     let t = judged(value, self.number, time, self.deadline);
-                    return Step {
-                        answer: Answer::Done,
-                        frame: self.with(at, time, self.next, t),
-                    };
+                    return self.done_with(at, time, self.next, t);
                 }
                 self.refuse(Refusal::Value)
             }
@@ -585,19 +589,10 @@ impl Frame {
         }
     }
 
-    // The frame ends, at its deadline or later.
-    pub fn close(self, time: u16) -> Step
-        ensures { λ r. ⌜ r ≡ closeStep self time ⌝ }
+    // The frame is closed, and stays as it is.
+    fn closed_at(self, time: u16) -> Step
+        ensures { λ r. ⌜ r ≡ done (closed self time) ⌝ }
     {
-        if !self.is_in(false, true, false) {
-            return self.refuse(Refusal::Phase);
-        }
-        if time < self.clock {
-            return self.refuse(Refusal::Clock);
-        }
-        if time < self.deadline {
-            return self.refuse(Refusal::Early);
-        }
         let order = self.order;
         let entries = self.entries;
         Step {
@@ -613,6 +608,22 @@ impl Frame {
                 entries,
             },
         }
+    }
+
+    // The frame ends, at its deadline or later.
+    pub fn close(self, time: u16) -> Step
+        ensures { λ r. ⌜ r ≡ closeStep self time ⌝ }
+    {
+        if !self.is_in(false, true, false) {
+            return self.refuse(Refusal::Phase);
+        }
+        if time < self.clock {
+            return self.refuse(Refusal::Clock);
+        }
+        if time < self.deadline {
+            return self.refuse(Refusal::Early);
+        }
+        self.closed_at(time)
     }
 
     // What is known of a job, in the open frame or the last one.
@@ -642,10 +653,10 @@ impl Frame {
         ensures { λ r. ⌜ r ≡ eventStep self e ⌝ }
     {
         match e {
-            Event::Next => Step {
-                answer: self.panel_job(),
-                frame: self,
-            },
+            Event::Next => {
+                let answer = self.panel_job();
+                self.asked(answer)
+            }
             Event::SpanEnd { id, time, value } => self.span_end(id, time, value),
             Event::Return {
                 number,
@@ -654,10 +665,10 @@ impl Frame {
                 value,
             } => self.give_back(number, id, time, value),
             Event::Close(time) => self.close(time),
-            Event::Read(id) => Step {
-                answer: self.read(id),
-                frame: self,
-            },
+            Event::Read(id) => {
+                let answer = self.read(id);
+                self.asked(answer)
+            }
         }
     }
 }

@@ -7,7 +7,7 @@ use mathlib.Core.Logic.{_⊎_, inl, inr}
 use mathlib.Core.List.{List, [], _∷_}
 use mathlib.Core.Option.{Option, some, none}
 use borrow.Author.Tests.{eqb-true}
-use lib.Dec.{leb, ltb, eqb}
+use lib.Dec.{leb, eqb}
 use lib.Ieee.{Float}
 use Rattle.model.specs.declared.Job.{Job}
 use Rattle.table.specs.Refusals as outcome
@@ -22,7 +22,7 @@ use Rattle.frame.specs.Run.{Call, begin, event}
 use Rattle.frame.specs.declared.Event.{Event}
 use Rattle.frame.specs.declared.Event.the-variants as E
 use Rattle.frame_promises.specs.History.{Turn, Report, Last, History, idle, opened, closed, fresh, onClock, valued, spanEnds, returns, reading}
-use Rattle.frame_promises.specs.History.{readIn, reads, reply}
+use Rattle.frame_promises.specs.History.{readIn, reply}
 use Rattle.frame_promises.specs.History.{opens, since, spanEnded, without, happens, accepts, isAccepted, told, reportOf}
 use Rattle.frame_promises.specs.Runs.{FromIdle}
 use Rattle.frame_promises.specs.Sequences.{Alike, same-call, other-span, other-back, SameBut, same-answer, other-value}

@@ -1,6 +1,6 @@
 -- "Begin: PHASE if open; the check's refusals; NUMBER (never from idle)", told of the turns before it: it is accepted exactly where no frame
 -- is open, the check passes and the number is above the last one begun. Assumes nothing.
-use Prim.Native.Nat.{ℕ, _<_}
+use Prim.Native.Nat.{ℕ}
 use native.Mathlib.Omega.{arith}
 use mathlib.Core.Path.{_≡_, refl, sym, _∙_, ap}
 use mathlib.Core.Bool.{Bool, true, false, cond}
@@ -8,7 +8,6 @@ use mathlib.Core.Logic.{_↔_}
 use mathlib.Core.List.{List, [], _∷_, _++_}
 use borrow.Author.Tests.{ltb-true, lt-ltb}
 use lib.Dec.{ltb}
-use Rattle.model.proofs.Lists.{clash}
 use Rattle.table.specs.declared.refusal.Refusal.{Refusal}
 use Rattle.table.specs.Refusals.{refusalSays}
 use Rattle.table.proofs.Refusals.{says-not-zero}
@@ -16,7 +15,7 @@ use Rattle.judge.specs.declared.Checked.{Checked}
 use Rattle.judge.specs.declared.Checked.the-variants as checked
 use Rattle.judge.specs.Check.{checkedSays, checkPlan}
 use Rattle.frame.specs.Step.{Reply, says}
-use Rattle.frame.specs.Run.{Call, begin}
+use Rattle.frame.specs.Run.{begin}
 use Rattle.frame.proofs.Laws.{false-true}
 use Rattle.frame_promises.specs.History.{Turn, Last, History, idle, opened, closed, done, refuse, begins, reply, isAccepted, history}
 use Rattle.frame_promises.specs.Runs.{FromIdle}

@@ -1,7 +1,7 @@
 -- The words of specs/ at work on one table: a job that is sent away comes back at the deadline, or after it. Assumes nothing.
 use Prim.Native.Nat.{ℕ}
 use mathlib.Core.Path.{_≡_, refl}
-use mathlib.Core.Bool.{true, false}
+use mathlib.Core.Bool.{false}
 use mathlib.Core.List.{List, [], _∷_, _++_}
 use lib.Ieee.{Float, fin}
 use lib.IntN.{pos}

@@ -1,6 +1,6 @@
 -- What holds of the history while a frame runs: the jobs whose spans have ended have reported their own values, but for those that are still
 -- out. Each event is accepted and keeps it so. Assumes nothing.
-use Prim.Native.Nat.{ℕ, suc, _+_, _≤_, _<_}
+use Prim.Native.Nat.{ℕ, _+_, _≤_, _<_}
 use native.Mathlib.Omega.{arith}
 use native.Mathlib.Nat.{eq-or-lt-of-le}
 use native.Mathlib.Numerals.{add-one}
@@ -12,27 +12,24 @@ use mathlib.Core.Option.{some}
 use borrow.Author.Tests.{ltb-true, ltb-false, le-ltb, le-leb, eq-eqb, ne-eqb}
 use lib.ListN.{length, getD, drop}
 use lib.Seq.{drop-cons}
-use lib.Dec.{leb, ltb, eqb}
+use lib.Dec.{ltb}
 use lib.Ieee.{Float}
-use Rattle.model.specs.Positions.{noJob}
 use Rattle.model.proofs.Lists.{clash}
 use Rattle.table.specs.Records.{used}
 use Rattle.table.specs.Tables.{JobTable}
 use Rattle.plan.specs.declared.Step.{Step}
 use Rattle.plan.specs.Plans.{stepId, noStep}
 use Rattle.draft.specs.Drafts.{stepOf}
-use Rattle.judge.specs.Check.{jobOf}
 use Rattle.frame.specs.Finite.{finite?}
-use Rattle.frame.specs.Step.{Reply, says}
-use Rattle.frame.specs.Run.{Call, begin, event}
+use Rattle.frame.specs.Step.{Reply}
+use Rattle.frame.specs.Run.{event}
 use Rattle.frame.specs.declared.Event.the-variants as E
-use Rattle.frame.proofs.Laws.{false-true}
 use Rattle.frame.proofs.Passed.{Passed}
 use Rattle.frame_promises.specs.History.{Turn, Report, Last, History, idle, opened, closed, done, onClock, spanEnds, fresh, reads, reply}
 use Rattle.frame_promises.specs.History.{since, spanEnded, without, accepts, isAccepted, told, reportOf}
 use Rattle.frame_promises.specs.Own.{Doing, doingAt, idAt, awayAt, valueAt, spanTime, backTime, Quiet, asks-next, asks-read, asks-begin}
 use Rattle.frame_promises.specs.Own.{other-number, is-refused, spanCall, backCall}
-use Rattle.frame_promises.proofs.Laws.{used-head, used-tail, without-gone, without-other, report-same, report-other, in-table}
+use Rattle.frame_promises.proofs.Laws.{used-head, used-tail, without-other, report-same, report-other, in-table}
 
 module _ (number : ℕ) (t : JobTable) (xs : List Step) (p : Passed t xs) (ds : List Doing)
     (counted : length xs ≡ length ds) (step-is : (k : ℕ) → getD xs k noStep ≡ stepOf ((doingAt ds k) .took .what)) where
@@ -106,9 +103,6 @@ module _ (number : ℕ) (t : JobTable) (xs : List Step) (p : Passed t xs) (ds : 
 
       other : (k : ℕ) → k < n → x .id ≡ idAt ds k → ⊥
       other k h e = differ n k inside (omega arith) (λ s. omega arith) (sym (id-is n) ∙ e)
-
-      not-home : List·Memᴰ n home → ⊥
-      not-home m = omega (arith, g .back n m .0)
 
       -- it is out
       away-goes : awayAt ds n ≡ true → Going (n + 1) home (spanTime ds n) (since b (spanTime ds n) rest (x .id ∷ b .out) (b .reports))

@@ -3,14 +3,13 @@ use Prim.Native.Nat.{ℕ, zero, suc, _≤_, _<_}
 use native.Mathlib.Omega.{arith}
 use mathlib.Core.Path.{_≡_, refl, sym, _∙_, ap}
 use mathlib.Core.Bool.{Bool, true, false, cond, _||_}
-use mathlib.Core.List.{List, [], _∷_, List·Memᴰ, List·Memᴰ·head, List·Memᴰ·tail}
+use mathlib.Core.List.{List, [], _∷_}
 use mathlib.Core.Option.{some, none}
-use borrow.Author.Tests.{eqb-true, eqb-false, eq-eqb, ne-eqb}
+use borrow.Author.Tests.{eqb-true, eq-eqb, ne-eqb}
 use lib.ListN.{length, getD, drop}
 use lib.Dec.{eqb}
 use Rattle.model.specs.declared.Job.{Job}
 use Rattle.model.specs.Positions.{noJob}
-use Rattle.model.proofs.Lists.{clash}
 use Rattle.table.specs.Records.{used}
 use Rattle.table.specs.declared.refusal.Refusal.{Refusal}
 use Rattle.table.specs.Refusals.{refusalSays}
@@ -72,17 +71,6 @@ module _ (r : Report) (rs : List Report) (id : ℕ) where
   pub report-other : (r .job ≡ id → ⊥) → reportOf (r ∷ rs) id ≡ reportOf rs id
   unfolding reportOf
   report-other other = rw (ne-eqb (r .job) id other)
-
-pub report-among : (rs : List Report) (id : ℕ) (r : Report) → reportOf rs id ≡ some r → List·Memᴰ r rs × (r .job ≡ id)
-unfolding reportOf
-report-among [] id r e = clash (cc)
-report-among (x ∷ rs) id r e = step (eqb (x .job) id) refl e (report-among rs id r)
-  where
-    step :
-        (b : Bool) → eqb (x .job) id ≡ b → cond b (some x) (reportOf rs id) ≡ some r →
-        (reportOf rs id ≡ some r → List·Memᴰ r rs × (r .job ≡ id)) → List·Memᴰ r (x ∷ rs) × (r .job ≡ id)
-    step true q e on = let same : r ≡ x = cc in (List·Memᴰ·head same, rw same (eqb-true (x .job) id q))
-    step false q e on = let w = on e in (List·Memᴰ·tail (w .0), w .1)
 
 -- ---- a table has the job at a position, and no job of an id that no position has
 

@@ -15,7 +15,6 @@ use Rattle.model.specs.Positions.{noChoice}
 use Rattle.model.specs.FreeOrder.{Choice, busy, lastFrom}
 use Rattle.model.specs.Run.{Took, RunOf, OnTime}
 use Rattle.model.proofs.Lists.{clash, all-at}
-use Rattle.model.proofs.Permutations.{length-perm}
 use Rattle.model.proofs.PlanOrder.{jobOf as theJob}
 use Rattle.table.specs.declared.refusal.Refusal.the-variants as R
 use Rattle.table.specs.Refusals.{Outcome, accepted}
@@ -44,7 +43,7 @@ use Rattle.frame_promises.specs.Own.{MayBegin, Planned, Doing, runOf, no
 use Rattle.frame_promises.specs.Own.{Plays, over, quiet, spans, backs, AllDone, Answers, OwnValues, OnlyReads, EachOwn}
 use Rattle.frame_promises.proofs.Replies.{Replied, replied, reply-told}
 use Rattle.frame_promises.proofs.Begins.{begin-iff}
-use Rattle.frame_promises.proofs.Going.{Going, few-ended, span-goes, back-goes, quiet-goes, Kept, Ended, all-ended, own-read, own-close, shut}
+use Rattle.frame_promises.proofs.Going.{Going, few-ended, span-goes, back-goes, quiet-goes, Ended, all-ended, own-read, own-close, shut}
 use Rattle.frame_promises.proofs.Going.{kept-shut, begun-goes}
 
 member-at : {d : Doing} {ds : List Doing} → List·Memᴰ d ds → (k : ℕ) × (k < length ds) × (doingAt ds k ≡ d)

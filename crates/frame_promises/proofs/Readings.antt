@@ -5,7 +5,7 @@ use native.Mathlib.Omega.{arith}
 use mathlib.Core.Path.{_≡_, refl, sym, _∙_, ap, subst}
 use mathlib.Core.Bool.{Bool, true, false, cond}
 use mathlib.Core.Logic.{_↔_}
-use mathlib.Core.List.{List, [], _∷_, _++_, append-assoc, append-nil, List·Memᴰ, List·Memᴰ·head, List·Memᴰ·tail, Memᴰ·append-right}
+use mathlib.Core.List.{List, [], _∷_, _++_, List·Memᴰ, List·Memᴰ·head, List·Memᴰ·tail, Memᴰ·append-right}
 use mathlib.Core.Option.{Option, some, none}
 use borrow.Author.Tests.{leb-true, leb-false, le-leb, lt-leb, eqb-true, eq-eqb}
 use lib.Dec.{leb, eqb}
@@ -20,12 +20,12 @@ use Rattle.plan.specs.Plans.{readPlan}
 use Rattle.judge.specs.Check.{jobOf}
 use Rattle.judge.proofs.Jobs.{member-all}
 use Rattle.frame.specs.Step.{Reply, says}
-use Rattle.frame.specs.Run.{Call, begin, event}
+use Rattle.frame.specs.Run.{begin, event}
 use Rattle.frame.specs.declared.Event.the-variants as E
-use Rattle.frame_promises.specs.History.{Turn, Report, Last, History, idle, opened, closed, refuse, fresh, reading, readIn, reads, reply}
-use Rattle.frame_promises.specs.History.{isAccepted, told, history, reportOf}
+use Rattle.frame_promises.specs.History.{Turn, Report, Last, History, idle, opened, closed, fresh, reading, readIn, reads, reply}
+use Rattle.frame_promises.specs.History.{isAccepted, history, reportOf}
 use Rattle.frame_promises.specs.Runs.{FromIdle}
-use Rattle.frame_promises.specs.Readings.{NoBegin, LastBegin, Reported, Unreported, IsClosed, Has, ReadSays, never-begun, no-job, is-fresh}
+use Rattle.frame_promises.specs.Readings.{NoBegin, LastBegin, Reported, Unreported, Has, ReadSays, never-begun, no-job, is-fresh}
 use Rattle.frame_promises.specs.Readings.{is-pending, is-late, is-missing, Behind}
 use Rattle.frame_promises.proofs.Since.{Since, Traced}
 use Rattle.frame_promises.proofs.Replies.{reads-told, traced}

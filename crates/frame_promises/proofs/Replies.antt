@@ -4,7 +4,6 @@ use Prim.Native.Nat.{ℕ}
 use mathlib.Core.Path.{_≡_, refl, sym, _∙_, ap, subst}
 use mathlib.Core.List.{List, [], _∷_, _++_, map, append-assoc, append-nil}
 use Rattle.frame.specs.Step.{Reply, answerSays}
-use Rattle.frame.specs.Step as step
 use Rattle.frame.specs.Run.{Call, begin, event, stepOf}
 use Rattle.frame.specs.declared.Frame.{Frame}
 use Rattle.frame.specs.declared.Event.the-variants as E

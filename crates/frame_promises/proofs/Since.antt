@@ -6,12 +6,12 @@ use mathlib.Core.Bool.{Bool, true, false, cond}
 use mathlib.Core.Logic.{_⊎_, inl, inr, ⊎-elim}
 use mathlib.Core.List.{List, [], _∷_, _++_, append-assoc, List·Memᴰ, List·Memᴰ·head, List·Memᴰ·tail, List·Memᴰ·not-nil}
 use mathlib.Core.List.{Memᴰ·append-left, Memᴰ·append-right, List·Memᴰ·append-cases, List·Memᴰ·eq-of-singleton, Permᴰ·refl}
-use mathlib.Core.Option.{Option, some, none}
+use mathlib.Core.Option.{some, none}
 use borrow.Author.Tests.{eqb-true, eqb-false}
 use lib.Dec.{ltb, eqb}
 use lib.Ieee.{Float}
 use Rattle.model.specs.Lists.{All, Pairwise}
-use Rattle.model.proofs.Lists.{clash, all-map, all-append}
+use Rattle.model.proofs.Lists.{clash, all-append}
 use Rattle.table.specs.Records.{used}
 use Rattle.table.specs.declared.refusal.Refusal.{Refusal}
 use Rattle.table.specs.Refusals as outcome
@@ -20,21 +20,18 @@ use Rattle.table.specs.Tables.{JobTable, readTable}
 use Rattle.plan.specs.declared.Step as plan
 use Rattle.plan.specs.Plans.{stepId, readPlan}
 use Rattle.plan.proofs.Plans.{accepted-plan}
-use Rattle.judge.specs.declared.Checked.{Checked}
-use Rattle.judge.specs.declared.Checked.the-variants.{Passes, Fails}
 use Rattle.judge.specs.Check.{afterPlan, afterTable, checkPlan}
 use Rattle.judge.proofs.Jobs.{member-all, perm-members}
-use Rattle.frame.specs.Finite.{finite?}
 use Rattle.frame.specs.Step.{Reply, says}
 use Rattle.frame.specs.Run.{Call, begin, event}
 use Rattle.frame.specs.declared.Event.{Event}
 use Rattle.frame.specs.declared.Event.the-variants as E
 use Rattle.frame.proofs.Laws.{false-true}
-use Rattle.frame_promises.specs.History.{Turn, Report, Last, History, idle, opened, closed, refuse, begins, onClock, valued, spanEnds, returns}
-use Rattle.frame_promises.specs.History.{closes, reply}
-use Rattle.frame_promises.specs.History.{opens, since, spanEnded, without, happens, accepts, isAccepted, told, reportOf}
-use Rattle.frame_promises.specs.Readings.{Did, NoBegin, LastBegin, Reported, by-return, by-span, Unreported, IsClosed}
-use Rattle.frame_promises.proofs.Laws.{refused-not, report-same, report-other, report-among}
+use Rattle.frame_promises.specs.History.{Turn, Report, Last, History, idle, opened, closed, refuse, begins, onClock, spanEnds, returns}
+use Rattle.frame_promises.specs.History.{reply}
+use Rattle.frame_promises.specs.History.{opens, since, spanEnded, happens, accepts, isAccepted, told, reportOf}
+use Rattle.frame_promises.specs.Readings.{Did, NoBegin, LastBegin, Reported, by-return, by-span, IsClosed}
+use Rattle.frame_promises.proofs.Laws.{refused-not, report-same, report-other}
 
 -- ---- turns and what was done in them
 

@@ -7,12 +7,11 @@ use mathlib.Core.Path.{_≡_, refl, sym, _∙_, ap, subst}
 use mathlib.Core.Bool.{Bool, true, false, cond, _&&_}
 use mathlib.Core.List.{List, [], _∷_}
 use mathlib.Core.Option.{Option, some, none}
-use borrow.Author.Tests.{ltb-true, ltb-false, eqb-true}
+use borrow.Author.Tests.{ltb-true, ltb-false}
 use lib.ListN.{getD, drop}
 use lib.Seq.{drop-cons}
 use lib.Dec.{leb, ltb, eqb}
 use lib.Ieee.{Float}
-use Rattle.model.specs.declared.Job.{Job}
 use Rattle.model.proofs.Lists.{clash}
 use Rattle.table.specs.declared.refusal.Refusal.{Refusal}
 use Rattle.table.specs.declared.refusal.Refusal.the-variants as R
@@ -25,7 +24,7 @@ use Rattle.plan.specs.declared.Step as plan
 use Rattle.plan.specs.Plans.{noStep, readPlan}
 use Rattle.judge.specs.declared.Checked.{Checked}
 use Rattle.judge.specs.declared.Checked.the-variants.{Passes, Fails}
-use Rattle.judge.specs.Check.{jobOf, afterPlan, afterTable, checkPlan}
+use Rattle.judge.specs.Check.{afterPlan, afterTable, checkPlan}
 use Rattle.frame.specs.Finite.{finite?}
 use Rattle.frame.specs.Sound as S
 use Rattle.frame.specs.Sound.{entryAt, entryId, open?, begun?, ready?}
@@ -40,7 +39,7 @@ use Rattle.frame.specs.declared.Standing.{Standing}
 use Rattle.frame.specs.declared.Standing.the-variants as stands
 use Rattle.frame.specs.declared.Frame.{Frame}
 use Rattle.frame.specs.declared.Answer.{Answer}
-use Rattle.frame.specs.declared.Answer.the-variants.{Panel, Rest, Read, Refused}
+use Rattle.frame.specs.declared.Answer.the-variants.{Panel, Rest, Read}
 use Rattle.frame.specs.declared.Found.{Found}
 use Rattle.frame.specs.declared.Found.the-variants.{At, Nothing}
 use Rattle.frame.specs.declared.Event.{Event}
@@ -50,7 +49,7 @@ use Rattle.frame.proofs.Laws.{false-true, first-below, first-has, first-some}
 use Rattle.frame.proofs.Passed.{Passed, passed}
 use Rattle.frame.proofs.Reached.{Fine}
 use Rattle.frame_promises.specs.History.{Report, Last, History, idle, opened, closed, done, refuse, begins, nexts, onClock, valued, spanEnds}
-use Rattle.frame_promises.specs.History.{returns, closes, reading, readIn, reads, inOpen, inClosed, reply, opens, accepts, isAccepted, told}
+use Rattle.frame_promises.specs.History.{returns, closes, reading, reads, inOpen, inClosed, reply, opens, accepts, isAccepted, told}
 use Rattle.frame_promises.specs.History.{reportOf}
 use Rattle.frame_promises.proofs.Laws.{refused-told, in-table, not-in-table, drop-all}
 use Rattle.frame_promises.proofs.Since.{Clear}

@@ -1,8 +1,7 @@
 -- What the two contracts over a lent record tell a caller, read from their own `ensures`: Rattle makes no `Reads` for them, as their proofs are
 -- by hand. And sequences of calls on a record that is lent to each. Assumes nothing.
-use Prim.Native.Nat.{ℕ}
 use mathlib.Core.Path.{refl}
-use mathlib.Core.List.{List, [], _∷_}
+use mathlib.Core.List.{List, []}
 use base.Logic.{emp}
 use contract.Lifetimes.{Lfts}
 use borrow.Fn.Claims.{AllOf}

@@ -13,15 +13,15 @@ finite-requires c κs = search needs
 judged-requires : tie.Need-judged-requires
 judged-requires c κs = search needs
 
-with-requires : tie.Need-with-requires
-with-requires c κs = search needs
+done-with-requires : tie.Need-done-with-requires
+done-with-requires c κs = search needs
 
 returns : tie.Need-returns
 returns c =
     simp (
       c .before .before .before .before .enum-told .given .1,
       sym (c .before .before .before .finite .ensures) ∙ c .before .before .if1 .taken,
-      c .with .ensures,
+      c .done-with .ensures,
       c .before .judged .ensures,
     )
 
@@ -70,7 +70,7 @@ back-at-spec =
     enum-told
     finite-requires
     judged-requires
-    with-requires
+    done-with-requires
     returns
     refuse-requires
     enum-told-2

@@ -42,15 +42,19 @@ returns-3 c =
     )
     (c .refuse3 .ensures)
 
+closed-at-requires : tie.Need-closed-at-requires
+closed-at-requires c κs = search needs
+
 returns-4 : tie.Need-returns-4
 unfolding closeStep
 returns-4 c =
-    let i = c .before .before .before .before .before .before in
+    let i = c .before .before .before .before .before in
     simp (
       is-open _ _ (i .before .is-in .ensures) ∙ not-false _ (i .if1 .left),
-      le-ltb _ _ (c .before .before .before .before .if2 .left),
-      le-ltb _ _ (c .before .before .if3 .left),
+      le-ltb _ _ (c .before .before .before .if2 .left),
+      le-ltb _ _ (c .before .if3 .left),
     )
+    (c .closed-at .ensures)
 
 pub close-spec : {M : Type 1} → statement M
 close-spec =
@@ -63,4 +67,5 @@ close-spec =
     returns-2
     refuse-requires-3
     returns-3
+    closed-at-requires
     returns-4)

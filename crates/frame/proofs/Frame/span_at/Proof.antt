@@ -7,11 +7,11 @@ use Rattle.frame.proofs.Frame.span_at.Tie as tie
 add-next : tie.Need-add-next
 add-next c = search needs
 
-with-requires : tie.Need-with-requires
-with-requires c κs = search needs
+done-with-requires : tie.Need-done-with-requires
+done-with-requires c κs = search needs
 
 returns : tie.Need-returns
-returns c = simp (c .before .if1 .taken, c .with .ensures, c .before .before .before .pre .2)
+returns c = simp (c .before .if1 .taken, c .done-with .ensures, c .before .before .before .pre .2)
 
 finite-requires : tie.Need-finite-requires
 finite-requires c κs = search needs
@@ -19,15 +19,15 @@ finite-requires c κs = search needs
 judged-requires : tie.Need-judged-requires
 judged-requires c κs = search needs
 
-with-requires-2 : tie.Need-with-requires-2
-with-requires-2 c κs = search needs
+done-with-requires-2 : tie.Need-done-with-requires-2
+done-with-requires-2 c κs = search needs
 
 returns-2 : tie.Need-returns-2
 returns-2 c =
     simp (
       c .before .before .before .before .if1 .left,
       sym (c .before .before .before .finite .ensures) ∙ c .before .before .if2 .taken,
-      c .with2 .ensures,
+      c .done-with2 .ensures,
       c .before .judged .ensures,
       c .before .before .before .before .before .before .pre .2,
     )
@@ -43,11 +43,11 @@ span-at-spec =
     tie.close
     (tie.spec
     add-next
-    with-requires
+    done-with-requires
     returns
     finite-requires
     judged-requires
-    with-requires-2
+    done-with-requires-2
     returns-2
     refuse-requires
     returns-3)

@@ -1,5 +1,5 @@
 -- `frame::Frame::span_end` meets its contract: each refusal in turn. Assumes nothing.
-use mathlib.Core.Path.{refl, sym, _∙_}
+use mathlib.Core.Path.{refl, _∙_}
 use native.Mathlib.Omega.{arith}
 use borrow.Author.Tests.{lt-ltb, le-ltb, eq-eqb, ne-eqb, not-true, not-false}
 use Rattle.frame.specs.Step.{spanStep}

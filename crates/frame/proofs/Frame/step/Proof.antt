@@ -9,6 +9,9 @@ enum-told c = search needs
 panel-job-requires : tie.Need-panel-job-requires
 panel-job-requires c κs = search needs
 
+asked-requires : tie.Need-asked-requires
+asked-requires c κs = search needs
+
 enum-known-e : tie.Need-enum-known-e
 enum-known-e c = search needs
 
@@ -33,8 +36,11 @@ enum-known-e-4 c = search needs
 read-requires : tie.Need-read-requires
 read-requires c κs = search needs
 
+asked-requires-2 : tie.Need-asked-requires-2
+asked-requires-2 c κs = search needs
+
 returns : tie.Need-returns
-returns c = simp (c .before .enum-told .given .1, c .panel-job .ensures)
+returns c = simp (c .before .before .enum-told .given .1, c .asked .ensures, c .before .panel-job .ensures)
 
 returns-2 : tie.Need-returns-2
 returns-2 c = simp (c .before .before .e .given .1) (c .span-end .ensures)
@@ -46,7 +52,7 @@ returns-4 : tie.Need-returns-4
 returns-4 c = simp (c .before .before .e3 .given .1) (c .close .ensures)
 
 returns-5 : tie.Need-returns-5
-returns-5 c = simp (c .before .before .e4 .given .1, c .read .ensures)
+returns-5 c = simp (c .before .before .before .e4 .given .1, c .asked2 .ensures, c .before .read .ensures)
 
 pub step-spec : {M : Type 1} → statement M
 step-spec =
@@ -54,6 +60,7 @@ step-spec =
     (tie.spec
     enum-told
     panel-job-requires
+    asked-requires
     enum-known-e
     span-end-requires
     enum-known-e-2
@@ -62,6 +69,7 @@ step-spec =
     close-requires
     enum-known-e-4
     read-requires
+    asked-requires-2
     returns
     returns-2
     returns-3
