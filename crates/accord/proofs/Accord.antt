@@ -10,8 +10,7 @@ use Rattle.model.proofs.PlanOrder.{perm-plan}
 use Rattle.table.specs.Refusals.{accepted}
 use Rattle.table.specs.Tables.{JobTable, readTable}
 use Rattle.table.proofs.Accepted.{accepted-good}
-use Rattle.plan.specs.Plans.{planBytes}
-use Rattle.draft.specs.Drafts.{stepsFor}
+use Rattle.plan.specs.Plans.{planBytes, stepsFor}
 use Rattle.planner.specs.declared.Planned.{Planned}
 use Rattle.planner.specs.Answers.{plannedSays, Writes}
 use Rattle.planner.proofs.WrittenPlans.{ReadsBack, free-reads-back, given-reads-back}
@@ -25,7 +24,7 @@ use Rattle.accord.proofs.Plans.{behind}
 
 module _ (s before : List ℕ) (r : Planned) (after : List ℕ) (n b l : ℕ) (says : plannedSays r ≡ 0 ∷ n ∷ b ∷ l ∷ []) where
   passes :
-      (t : JobTable) → readTable s ≡ accepted t → (xs ds : List Chosen) → Writes xs before r after → Choice (t .jobs) ds → List·Permᴰ xs ds →
+      (t : JobTable) → readTable s ≡ accepted t → (xs ds : List Chosen) → Writes t xs before r after → Choice (t .jobs) ds → List·Permᴰ xs ds →
       Fits (t .deadline) 0 xs → ReadsBack xs after → (c : Checked) → CheckAllows s (take n after) c → checkedSays c ≡ 0 ∷ l ∷ b ∷ []
   unfolding checkPlan
   passes t e xs ds w choice d fits back c allows =
@@ -38,7 +37,7 @@ module _ (s before : List ℕ) (r : Planned) (after : List ℕ) (n b l : ℕ) (s
 
   pub free-passes : FreeAllows s before r after → (c : Checked) → CheckAllows s (take n after) c → checkedSays c ≡ 0 ∷ l ∷ b ∷ []
   free-passes allows =
-      let p = behind allows says in
+      let p = behind s allows says in
       let cs = p .is .0 in
       let best = p .is .1 in
       passes (p .t) (p .read) (p .xs) cs (p .writes) (best .choice)
@@ -47,6 +46,6 @@ module _ (s before : List ℕ) (r : Planned) (after : List ℕ) (n b l : ℕ) (s
 
   pub given-passes : GivenAllows s before r after → (c : Checked) → CheckAllows s (take n after) c → checkedSays c ≡ 0 ∷ l ∷ b ∷ []
   given-passes allows =
-      let p = behind allows says in
+      let p = behind s allows says in
       passes (p .t) (p .read) (p .xs) (p .xs) (p .writes) (p .is .choice) (Permᴰ·refl (p .xs)) (p .is .fits)
       (given-reads-back s (p .t) (p .read) before r after (p .xs) (p .writes) (p .is))

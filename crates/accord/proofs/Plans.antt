@@ -19,35 +19,34 @@ use Rattle.model.proofs.GivenOrder.{choice-inorder, best-is-given, best-in-orde
 use Rattle.table.specs.Refusals.{accepted}
 use Rattle.table.specs.Tables.{JobTable, readTable}
 use Rattle.table.proofs.Refusals.{says-not-zero}
-use Rattle.plan.specs.Plans.{planBytes}
-use Rattle.draft.specs.Drafts.{stepsFor}
+use Rattle.plan.specs.Plans.{planBytes, stepsFor}
 use Rattle.planner.specs.declared.Planned.{Planned}
-use Rattle.planner.specs.Answers.{plannedSays, Writes, PlanAnswer, no-room, bad-table, no-plan, planned, BestPlan}
+use Rattle.planner.specs.Answers.{plannedSays, Writes, PlanAnswer, no-room, bad-table, no-plan, planned, FreePlan}
 use Rattle.faults.specs.Faults.{Byte, TableIs}
 use Rattle.faults.proofs.Tables.{table-is}
 use Rattle.accord.specs.Allows.{FreeAllows, GivenAllows}
 use Rattle.accord.specs.Exact.{PlanStands}
 
 -- the plan behind an answer that says 0
-pub record Behind (IsPlan : ℕ → List Job → List Chosen → Type 0) (s before : List ℕ) (r : Planned) (after : List ℕ) : Type 0 where
+pub record Behind (IsPlan : JobTable → List Chosen → Type 0) (s before : List ℕ) (r : Planned) (after : List ℕ) : Type 0 where
   pub t : JobTable
   pub read : readTable s ≡ accepted t
   pub xs : List Chosen
-  pub is : IsPlan (t .deadline) (t .jobs) xs
-  pub writes : Writes xs before r after
+  pub is : IsPlan t xs
+  pub writes : Writes t xs before r after
 
 pub behind :
-    {CanMeet : ℕ → List Job → Type 0} {IsPlan : ℕ → List Job → List Chosen → Type 0} {s before : List ℕ} {r : Planned} {after ns : List ℕ} →
-    PlanAnswer CanMeet IsPlan s before r after → plannedSays r ≡ 0 ∷ ns → Behind IsPlan s before r after
-behind (no-room short h) e = clash (cc (h .says))
-behind {ns = ns} (bad-table m f d h) e = absurd (says-not-zero f ns (sym (h .says) ∙ e))
-behind (no-plan m t d n h) e = clash (cc (h .says))
-behind (planned m t d xs p h) e = record { t = t; read = d; xs = xs; is = p; writes = h }
+    {CanMeet : JobTable → Type 0} {IsPlan : JobTable → List Chosen → Type 0} {before : List ℕ} {r : Planned} {after ns : List ℕ} →
+    (s : List ℕ) → PlanAnswer CanMeet IsPlan (readTable s) before r after → plannedSays r ≡ 0 ∷ ns → Behind IsPlan s before r after
+behind s (no-room short h) e = clash (cc (h .says))
+behind {ns = ns} s (bad-table m f d h) e = absurd (says-not-zero f ns (sym (h .says) ∙ e))
+behind s (no-plan m t d n h) e = clash (cc (h .says))
+behind s (planned m t d xs p h) e = record { t = t; read = d; xs = xs; is = p; writes = h }
 
 -- its bytes and its jobs' timetable, where that has the plan's figures
 module _ (Kind : List Job → List Placed → Type 0) (t : JobTable) (before : List ℕ) (r : Planned) (after : List ℕ) (n b l : ℕ) where
   stands :
-      (xs : List Chosen) → Writes xs before r after → plannedSays r ≡ 0 ∷ n ∷ b ∷ l ∷ [] →
+      (xs : List Chosen) → Writes t xs before r after → plannedSays r ≡ 0 ∷ n ∷ b ∷ l ∷ [] →
       (ps : List Placed) → List·Permᴰ (laid 0 xs) ps → Kind (t .jobs) ps → Meets (t .deadline) ps →
       spans ps ≡ busy xs → greatest finish ps ≡ lastFrom 0 xs →
       ((qs : List Placed) → Kind (t .jobs) qs → Meets (t .deadline) qs → busy xs ≤ spans qs) → PlanStands Kind t xs before after n b l
@@ -70,10 +69,12 @@ module _ (Kind : List Job → List Placed → Type 0) (t : JobTable) (before : L
 module _ (s : List ℕ) (bytes : All Byte s) (before : List ℕ) (r : Planned) (after : List ℕ) (n b l : ℕ) (says : plannedSays r ≡ 0 ∷ n ∷ b ∷ l ∷ []) where
   -- The free order: and it is the plan of the best choice, so the tie rule holds.
   pub free-writes : FreeAllows s before r after →
-      (t : JobTable) × (xs : List Chosen) × TableIs s (accepted t) × PlanStands Timetable t xs before after n b l × BestPlan (t .deadline) (t .jobs) xs
-  free-writes allows = let p = behind allows says in (p .t, p .xs, table-is s bytes (accepted (p .t)) .0 (p .read), go (p .t) (p .xs) (p .is) (p .writes), p .is)
+      (t : JobTable) × (xs : List Chosen) × TableIs s (accepted t) × PlanStands Timetable t xs before after n b l × FreePlan t xs
+  free-writes allows =
+      let p = behind s allows says in
+      (p .t, p .xs, table-is s bytes (accepted (p .t)) .0 (p .read), go (p .t) (p .xs) (p .is) (p .writes), p .is)
     where
-      go : (t : JobTable) (xs : List Chosen) → BestPlan (t .deadline) (t .jobs) xs → Writes xs before r after → PlanStands Timetable t xs before after n b l
+      go : (t : JobTable) (xs : List Chosen) → FreePlan t xs → Writes t xs before r after → PlanStands Timetable t xs before after n b l
       go t xs p w =
           let D = t .deadline in
           let js = t .jobs in
@@ -89,7 +90,7 @@ module _ (s : List ℕ) (bytes : All Byte s) (before : List ℕ) (r : Planned) (
   pub given-writes : GivenAllows s before r after →
       (t : JobTable) × (xs : List Chosen) × TableIs s (accepted t) × PlanStands InOrder t xs before after n b l × (given (t .deadline) 0 (t .jobs) ≡ some xs)
   given-writes allows =
-      let p = behind allows says in
+      let p = behind s allows says in
       let D = p .t .deadline in
       let js = p .t .jobs in
       let xs = p .xs in

@@ -25,11 +25,10 @@ use Rattle.table.specs.Limits.{mostJobs, longestPlan}
 use Rattle.table.specs.Refusals.{Outcome, accepted, refused}
 use Rattle.table.specs.Tables.{JobTable, readTable}
 use Rattle.table.proofs.Accepted.{accepted-good}
-use Rattle.plan.specs.Plans.{planBytes}
-use Rattle.draft.specs.Drafts.{stepsFor}
+use Rattle.plan.specs.Plans.{planBytes, stepsFor}
 use Rattle.planner.specs.declared.Planned.{Planned}
 use Rattle.planner.specs.declared.Planned.the-variants.{PlanWritten, NotPlanned}
-use Rattle.planner.specs.Answers.{Writes, no-room, bad-table, no-plan, planned, BestPlan, FreeAnswer}
+use Rattle.planner.specs.Answers.{no-room, bad-table, no-plan, planned, BestPlan, FreeAnswer}
 use Rattle.faults.specs.Faults.{Byte}
 use Rattle.faults.specs.Checks.{PlanOf}
 use Rattle.faults.proofs.Tables.{table-is}
@@ -62,7 +61,9 @@ module _ (s : List ℕ) (t : JobTable) (e : readTable s ≡ accepted t) where
   finds-best xs p = step found refl
     where
       step : (o : Option (List Chosen)) → found ≡ o → found ≡ some xs
-      step none q = absurd (free-none-iff mostJobs (t .jobs) few (t .deadline) .0 q (timetable-iff-workable (t .deadline) (t .jobs) .1 (p .0, p .1 .choice, p .1 .workable)))
+      step none q =
+          absurd (free-none-iff mostJobs (t .jobs) few (t .deadline) .0 q
+          (timetable-iff-workable (t .deadline) (t .jobs) .1 (p .0, p .1 .choice, p .1 .workable)))
       step (some ys) q =
           let o = free-best mostJobs (t .jobs) few (t .deadline) ys q in
           q ∙ ap some (o .2 ∙ (ap plan (best-unique (t .deadline) (t .jobs) (o .0) (p .0) (o .1) (p .1)) ∙ sym (p .2)))

@@ -19,8 +19,7 @@ use Rattle.table.specs.Refusals.{Outcome}
 use Rattle.table.specs.Tables.{JobTable}
 use Rattle.table.proofs.Accepted.{accepted-good}
 use Rattle.plan.specs.declared.Step.{Step}
-use Rattle.plan.specs.Plans.{stepId, noStep, readPlan}
-use Rattle.draft.specs.Drafts.{stepOf, stepsFor}
+use Rattle.plan.specs.Plans.{stepId, noStep, readPlan, stepOf, stepsFor}
 use Rattle.judge.specs.declared.Checked.the-variants.{Passes, Fails}
 use Rattle.judge.specs.Check.{lacksOne, timed, afterPlan, checkPlan}
 use Rattle.judge.proofs.Runs.{pass-iff-runs, exactly-its-jobs}

@@ -22,9 +22,8 @@ use Rattle.table.specs.Tables.{JobTable, GoodTable, readTable}
 use Rattle.table.proofs.Accepted.{accepted-good}
 use Rattle.table.proofs.Listed.{Distinct}
 use Rattle.plan.specs.declared.Step.{Step}
-use Rattle.plan.specs.Plans.{stepId, readPlan}
+use Rattle.plan.specs.Plans.{stepId, readPlan, stepsFor}
 use Rattle.plan.proofs.Plans.{accepted-plan}
-use Rattle.draft.specs.Drafts.{stepsFor}
 use Rattle.judge.specs.declared.Checked.the-variants.{Passes, Fails}
 use Rattle.judge.specs.Check.{listed, lacksOne, timed, afterListed, afterPlan, afterTable, checkPlan}
 use Rattle.judge.proofs.Jobs.{perm-members, job-found, listed-tells, listed-from, none-left, all-or-left}

@@ -34,11 +34,15 @@ Before D p q = Apart q p × (spanEnd p + wait (q .what) ≤ D)
 
 before : (D : ℕ) (ps : List Placed) → Pairwise Apart ps → Meets D ps → Pairwise (λ (p q : Placed). wait (q .what) ≤ wait (p .what)) ps → Pairwise (Before D) ps
 before D [] a m w = tt
-before D (p ∷ ps) a m w =
-    (all-map (λ q k. (flip p q (k .0), omega (arith, m .0, k .1))) ps (all-zip (Apart p) (λ (q : Placed). wait (q .what) ≤ wait (p .what)) ps (a .0) (w .0)), before D ps (a .1) (m .1) (w .1))
+before D (p ∷ ps) a m w = (
+  all-map (λ q k. (flip p q (k .0), omega (arith, m .0, k .1))) ps
+      (all-zip (Apart p) (λ (q : Placed). wait (q .what) ≤ wait (p .what)) ps (a .0) (w .0)),
+  before D ps (a .1) (m .1) (w .1),
+)
 
 -- what precedes in the plan (`pre`) and the next job fill no more than D less that job's wait
-fits : (D : ℕ) (pre ps : List Placed) → Pairwise Apart pre → All (λ (q : Placed). All (λ (p : Placed). Before D p q) pre) ps → Pairwise (Before D) ps → Meets D ps
+fits : (D : ℕ) (pre ps : List Placed) → Pairwise Apart pre → All (λ (q : Placed). All (λ (p : Placed). Before D p q) pre) ps
+    → Pairwise (Before D) ps → Meets D ps
     → Fits D (total (λ (p : Placed). span (p .what)) pre) (map what ps)
 fits D pre [] a b c m = tt
 fits D pre (q ∷ ps) a b c m = (
@@ -69,7 +73,8 @@ timetable-choice D js ps t m =
     let aq : Pairwise Apart qs = pairwise-perm Apart flip (r .1) (t .apart) in
     let mq : Meets D qs = all-perm (λ (p : Placed). finish p ≤ D) (r .1) m in
     let wq : Pairwise (λ (p q : Placed). wait (q .what) ≤ wait (p .what)) qs =
-    pairwise-of-map what (λ (c d : Chosen). wait d ≤ wait c) qs (subst (λ (l : List Chosen). Pairwise (λ (c d : Chosen). wait d ≤ wait c) l) (sym (r .2)) (plan-waits cs)) in (
+    pairwise-of-map what (λ (c d : Chosen). wait d ≤ wait c) qs
+    (subst (λ (l : List Chosen). Pairwise (λ (c d : Chosen). wait d ≤ wait c) l) (sym (r .2)) (plan-waits cs)) in (
       record { each = sym (jobs-what ps) ∙ t .each; allowed = al },
       subst (λ (l : List Chosen). Fits D 0 l) (r .2) (fits D [] qs tt (all-all (λ q. tt) qs) (before D qs aq mq wq) mq),
     )

@@ -1,4 +1,5 @@
 pub mod Finishing
+pub mod Deadlines
 pub mod Orders
 pub mod Settled
 pub mod WrittenPlans

@@ -20,9 +20,8 @@ ghost use Prim.Native.Nat.{_≤_};
 
 const TABLES: u64 = 4000;
 
-// A plan of the table, against the answer that goes with the best choice.
-fn plan_findings(table: Bytes, best: Best, expected: Answer, given: bool) -> u64 {
-    let answer = asked::plan(table, given);
+// A planner's answer, against the one that goes with the best choice.
+fn plan_findings(answer: Answer, best: Best, expected: Answer) -> u64 {
     report::mark(report::PLAN, answer.number == 0)
         | report::mark(report::NONE, answer.number == 7)
         | report::mark(report::TIE, best.tied)
@@ -38,7 +37,7 @@ fn given_findings(jobs: Jobs, table: Bytes, deadline: u32, least: u32) -> u64
     let best = answers::best_choice(jobs, finishes, deadline, Rule::GivenOrder);
     let expected = answers::answer_of(jobs, best, Rule::GivenOrder);
     let only_free = best.busy == search::NEVER && least <= deadline;
-    (plan_findings(table, best, expected, true) << report::GIVEN)
+    (plan_findings(asked::plan_given(table), best, expected) << report::GIVEN)
         | report::mark(report::ONLY_FREE, only_free)
 }
 
@@ -105,7 +104,7 @@ fn tried(number: u64, before: u64) -> u64 {
     let limit = deadline as u32;
     let best = answers::best_choice(jobs, finishes, limit, Rule::FreeOrder);
     let right = answers::answer_of(jobs, best, Rule::FreeOrder);
-    let free = plan_findings(table, best, right, false) << report::FREE;
+    let free = plan_findings(asked::plan_free(table), best, right) << report::FREE;
     let given = given_findings(jobs, table, limit, least);
     let planned = free | given | least_findings(table, limit, least);
     if planned & report::DIFFERENCES != 0 && before & report::DIFFERENCES == 0 {
@@ -115,6 +114,7 @@ fn tried(number: u64, before: u64) -> u64 {
     size | planned | error_findings(jobs, finishes, limit, right)
 }
 
+// Tries all tables and prints the report.
 fn main() {
     let mut counts = [0; 32];
     let mut found = 0;
