@@ -58,10 +58,9 @@ pub fn plan_free_read(read: TableRead, area: &mut [u8]) -> Planned
         return Planned::NotPlanned(Refusal::Room);
     }
     let verdict = read.verdict;
-    let t = read.table;
     match verdict {
         TableVerdict::Refused(f) => Planned::NotPlanned(f),
-        TableVerdict::Whole => finish(area, free::free_plan(t)),
+        TableVerdict::Whole => finish(area, free::free_plan(read.table)),
     }
 }
 
@@ -81,10 +80,9 @@ pub fn plan_given_read(read: TableRead, area: &mut [u8]) -> Planned
         return Planned::NotPlanned(Refusal::Room);
     }
     let verdict = read.verdict;
-    let t = read.table;
     match verdict {
         TableVerdict::Refused(f) => Planned::NotPlanned(f),
-        TableVerdict::Whole => finish(area, given::given_plan(t)),
+        TableVerdict::Whole => finish(area, given::given_plan(read.table)),
     }
 }
 
@@ -101,10 +99,9 @@ pub fn least_deadline_read(read: TableRead) -> Least
     ensures { λ r. ⌜ LeastRead (wasRead read) r ⌝ }
 {
     let verdict = read.verdict;
-    let t = read.table;
     match verdict {
         TableVerdict::Refused(f) => Least::NoDeadline(f),
-        TableVerdict::Whole => match choice::earliest(choice::prepare(t)) {
+        TableVerdict::Whole => match choice::earliest(choice::prepare(read.table)) {
             EarliestMet::MetAt(d) => Least::DeadlineIs(d),
             EarliestMet::NeverMet => Least::NoDeadline(Refusal::None),
         },

@@ -11,11 +11,11 @@ enum-told : tie.Need-enum-told
 enum-told c = search needs
 
 prepare-requires : tie.Need-prepare-requires
-prepare-requires c κs = c .before .before .before .pre (c .enum-told .given .1)
+prepare-requires c κs = c .before .before .pre (c .enum-told .given .1)
 
 earliest-requires : tie.Need-earliest-requires
 earliest-requires c κs =
-    let start = c .before .before .before .before in
+    let start = c .before .before .before in
     least-ready (start .args .read) (c .before .enum-told .given .1) _ (c .prepare .ensures) (start .pre)
 
 enum-known-d : tie.Need-enum-known-d
@@ -25,17 +25,17 @@ enum-told-2 : tie.Need-enum-told-2
 enum-told-2 c = search needs
 
 returns : tie.Need-returns
-returns c = least-refused (c .before .before .before .before .args .read) _ (c .before .verdict .given .1)
+returns c = least-refused (c .before .before .before .args .read) _ (c .before .verdict .given .1)
 
 returns-2 : tie.Need-returns-2
 returns-2 c =
-    let start = c .before .before .before .before .before .before .before .before in
+    let start = c .before .before .before .before .before .before .before in
     least-met (start .args .read) (c .before .before .before .before .before .enum-told .given .1) _
     (c .before .before .before .before .prepare .ensures) _ (c .before .before .before .earliest .ensures) _ (c .before .d .given .1)
 
 returns-3 : tie.Need-returns-3
 returns-3 c =
-    let start = c .before .before .before .before .before .before .before in
+    let start = c .before .before .before .before .before .before in
     least-never (start .args .read) (c .before .before .before .before .enum-told .given .1) _
     (c .before .before .before .prepare .ensures) _ (c .before .before .earliest .ensures) (c .enum-told2 .given .1)
 
