@@ -10,8 +10,7 @@ use Rattle.model.specs.FreeOrder.{Fits, busy, lastFrom}
 use Rattle.model.proofs.Runs.{fits-iff-runs}
 use Rattle.table.specs.Refusals.{accepted}
 use Rattle.table.specs.Tables.{JobTable}
-use Rattle.plan.specs.Plans.{planBytes}
-use Rattle.draft.specs.Drafts.{stepsFor}
+use Rattle.plan.specs.Plans.{planBytes, stepsFor}
 use Rattle.planner.specs.declared.Planned.{Planned}
 use Rattle.planner.specs.Answers.{plannedSays, Writes}
 use Rattle.judge.specs.declared.Checked.{Checked}
@@ -25,7 +24,7 @@ use Rattle.accord.proofs.Plans.{behind, free-of, given-of, reads}
 
 module _ (s : List ℕ) (bytes : All Byte s) (before : List ℕ) (r : Planned) (after : List ℕ) (n b l : ℕ) (says : plannedSays r ≡ 0 ∷ n ∷ b ∷ l ∷ []) where
   passes :
-      (t : JobTable) → TableIs s (accepted t) → (xs : List Chosen) → PlanOf (t .jobs) xs × Fits (t .deadline) 0 xs → Writes xs before r after →
+      (t : JobTable) → TableIs s (accepted t) → (xs : List Chosen) → PlanOf (t .jobs) xs × Fits (t .deadline) 0 xs → Writes t xs before r after →
       (c : Checked) → CheckAllows s (take n after) c → checkedSays c ≡ 0 ∷ l ∷ b ∷ []
   passes t table xs p w c allows =
       let size : n ≡ length (planBytes (stepsFor xs)) = cc (w .says, says) in
@@ -36,10 +35,10 @@ module _ (s : List ℕ) (bytes : All Byte s) (before : List ℕ) (r : Planned) (
 
   pub free-passes : FreeAllows s before r after → (c : Checked) → CheckAllows s (take n after) c → checkedSays c ≡ 0 ∷ l ∷ b ∷ []
   free-passes allows =
-      let p = behind bytes allows says in
-      passes (p .t) (p .table) (p .xs) (free-of (p .t .deadline) (p .t .jobs) (p .xs) (p .is)) (p .writes)
+      let p = behind s bytes allows says in
+      passes (p .t) (p .table) (p .xs) (free-of (p .t) (p .xs) (p .is)) (p .writes)
 
   pub given-passes : GivenAllows s before r after → (c : Checked) → CheckAllows s (take n after) c → checkedSays c ≡ 0 ∷ l ∷ b ∷ []
   given-passes allows =
-      let p = behind bytes allows says in
-      passes (p .t) (p .table) (p .xs) (given-of (p .t .deadline) (p .t .jobs) (p .xs) (p .is)) (p .writes)
+      let p = behind s bytes allows says in
+      passes (p .t) (p .table) (p .xs) (given-of (p .t) (p .xs) (p .is)) (p .writes)

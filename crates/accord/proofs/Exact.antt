@@ -10,7 +10,7 @@ use Rattle.model.specs.declared.Job.{Job}
 use Rattle.model.specs.Lists.{All}
 use Rattle.model.specs.Timetable.{Chosen, Placed, Timetable, Met}
 use Rattle.model.specs.FreeOrder.{LeastDeadline}
-use Rattle.model.specs.GivenOrder.{InOrder, MetInOrder, BestInOrder}
+use Rattle.model.specs.GivenOrder.{InOrder}
 use Rattle.model.proofs.Lists.{clash}
 use Rattle.model.proofs.GivenOrder.{best-in-order-iff}
 use Rattle.model.proofs.LeastDeadline.{met-mono, least-unique}
@@ -21,13 +21,14 @@ use Rattle.table.specs.Tables.{JobTable, readTable}
 use Rattle.table.proofs.Refusals.{says-not-zero}
 use Rattle.planner.specs.declared.Planned.{Planned}
 use Rattle.planner.specs.declared.Least.{Least}
-use Rattle.planner.specs.Answers.{plannedSays, leastSays, PlanAnswer, no-room, bad-table, no-plan, planned, BestPlan, LeastAnswer, never-met, met-from}
 use Rattle.planner.proofs.Settled.{best-meets}
+use Rattle.planner.specs.Answers.{plannedSays, leastSays, PlanAnswer, no-room, bad-table, no-plan, planned}
+use Rattle.planner.specs.Answers.{Possible, FreePlan, GivenPlan, LeastAnswer, never-met, met-from}
 use Rattle.faults.specs.Faults.{Byte, TableFault, TableIs}
 use Rattle.faults.proofs.Tables.{table-read, table-is}
 use Rattle.faults.proofs.Numbers.{table-placed}
 use Rattle.accord.specs.Allows.{FreeAllows, GivenAllows, LeastAllows}
-use Rattle.accord.specs.Exact.{SaysWhen, MetByLargest, Possible, PlansWhen}
+use Rattle.accord.specs.Exact.{SaysWhen, MetByLargest, PlansWhen}
 
 -- a number from 1 up is not 0
 above : {P : Type 0} {n : ℕ} {ns ms : List ℕ} → 1 ≤ n → n ∷ ns ≡ 0 ∷ ms → P
@@ -86,27 +87,29 @@ module _ (s : List ℕ) (bytes : All Byte s) where
 
   -- The planners.
   module _
-      (Kind : List Job → List Placed → Type 0) (CanMeet : ℕ → List Job → Type 0) (IsPlan : ℕ → List Job → List Chosen → Type 0)
-      (can : (t : JobTable) → CanMeet (t .deadline) (t .jobs) ↔ Possible Kind t)
-      (possible : (D : ℕ) (js : List Job) (xs : List Chosen) → IsPlan D js xs → CanMeet D js) where
+      (Kind : List Job → List Placed → Type 0) (IsPlan : JobTable → List Chosen → Type 0)
+      (possible : (t : JobTable) (xs : List Chosen) → IsPlan t xs → Possible Kind t) where
+    abbrev Answer : List ℕ → Planned → List ℕ → Type 0
+    Answer = PlanAnswer (Possible Kind) IsPlan (readTable s)
+
     plans-told : (before : List ℕ) (r : Planned) (after : List ℕ) → longestPlan ≤ length before →
-        PlanAnswer CanMeet IsPlan s before r after → Told (Possible Kind) (plannedSays r)
+        Answer before r after → Told (Possible Kind) (plannedSays r)
     plans-told before r after room (no-room short h) = absurd (omega arith)
     plans-told before r after room (bad-table m f e h) = refuses f e (h .says)
-    plans-told before r after room (no-plan m t e never h) = misses t e (λ y. never (can t .1 y)) (h .says)
-    plans-told before r after room (planned m t e xs p h) = finds t e (can t .0 (possible (t .deadline) (t .jobs) xs p)) _ (h .says)
+    plans-told before r after room (no-plan m t e never h) = misses t e never (h .says)
+    plans-told before r after room (planned m t e xs p h) = finds t e (possible t xs p) _ (h .says)
 
-    plans-when : (before : List ℕ) (r : Planned) (after : List ℕ) → PlanAnswer CanMeet IsPlan s before r after → PlansWhen Kind s before r after
+    plans-when : (before : List ℕ) (r : Planned) (after : List ℕ) → Answer before r after → PlansWhen Kind s before r after
     plans-when before r after a =
         record { room = short a; says = λ room. says-when (Possible Kind) (plannedSays r) (plans-told before r after room a); left = left a }
       where
-        short : PlanAnswer CanMeet IsPlan s before r after → (plannedSays r ≡ 18 ∷ []) ↔ (length before < longestPlan)
+        short : Answer before r after → (plannedSays r ≡ 18 ∷ []) ↔ (length before < longestPlan)
         short (no-room h w) = ((λ q. h), (λ k. w .says))
         short (bad-table m f e w) = ((λ q. not-alone f 18 e (sym (w .says) ∙ q)), (λ k. absurd (omega arith)))
         short (no-plan m t e never w) = ((λ q. clash (cc (w .says))), (λ k. absurd (omega arith)))
         short (planned m t e xs p w) = ((λ q. clash (cc (w .says))), (λ k. absurd (omega arith)))
 
-        left : PlanAnswer CanMeet IsPlan s before r after → ((n b l : ℕ) × (plannedSays r ≡ 0 ∷ n ∷ b ∷ l ∷ [])) ⊎ (after ≡ before)
+        left : Answer before r after → ((n b l : ℕ) × (plannedSays r ≡ 0 ∷ n ∷ b ∷ l ∷ [])) ⊎ (after ≡ before)
         left (no-room h w) = inr (w .left)
         left (bad-table m f e w) = inr (w .left)
         left (no-plan m t e never w) = inr (w .left)
@@ -114,12 +117,11 @@ module _ (s : List ℕ) (bytes : All Byte s) where
 
   pub free-says : (before : List ℕ) (r : Planned) (after : List ℕ) → FreeAllows s before r after → PlansWhen Timetable s before r after
   free-says =
-      plans-when Timetable Met BestPlan (λ t. ((λ m. m), (λ m. m))) best-meets
+      plans-when Timetable FreePlan best-meets
 
   pub given-says : (before : List ℕ) (r : Planned) (after : List ℕ) → GivenAllows s before r after → PlansWhen InOrder s before r after
   given-says =
-      plans-when InOrder MetInOrder BestInOrder (λ t. ((λ m. m), (λ m. m)))
-      (λ D js xs p. best-in-order-iff D js .0 (xs, p))
+      plans-when InOrder GivenPlan (λ t xs p. best-in-order-iff (t .deadline) (t .jobs) .0 (xs, p))
 
   -- The least deadline.
   module _ (r : Least) (allows : LeastAllows s r) where
@@ -144,7 +146,7 @@ module _ (s : List ℕ) (bytes : All Byte s) where
         go (met-from t e c m h) = (
           (λ q. let same : c ≡ d = cc (h, q) in (t, table-is s bytes (accepted t) .0 e, subst (LeastDeadline largestTime (t .jobs)) same m)),
           (λ l.
-              let other : LeastDeadline largestTime (t .jobs) d =
-              subst (λ (u : JobTable). LeastDeadline largestTime (u .jobs) d) (same-table e (l .1)) (l .2) in
+              let other : LeastDeadline largestTime (t .jobs) d = subst (λ (u : JobTable). LeastDeadline largestTime (u .jobs) d)
+              (same-table e (l .1)) (l .2) in
               h ∙ ap (λ (n : ℕ). 0 ∷ n ∷ []) (least-unique (t .jobs) largestTime c d m other)),
         )

@@ -20,15 +20,13 @@ use Rattle.model.proofs.Best.{best-least}
 use Rattle.model.proofs.GivenOrder.{choice-inorder, best-is-given, best-in-order-least}
 use Rattle.table.specs.Limits.{longestPlan}
 use Rattle.table.specs.Refusals.{accepted}
-use Rattle.table.specs.Tables.{JobTable, GoodTable}
+use Rattle.table.specs.Tables.{JobTable, GoodTable, readTable}
 use Rattle.table.proofs.Refusals.{says-not-zero}
 use Rattle.plan.specs.declared.Step.{Step}
-use Rattle.plan.specs.Plans.{stepId, planBytes}
-use Rattle.plan.proofs.Steps.{plan-length}
-use Rattle.draft.specs.Drafts.{stepOf, stepsFor}
-use Rattle.draft.proofs.Drafts.{steps-length}
+use Rattle.plan.specs.Plans.{stepId, planBytes, stepOf, stepsFor}
+use Rattle.plan.proofs.Steps.{plan-length, steps-length}
 use Rattle.planner.specs.declared.Planned.{Planned}
-use Rattle.planner.specs.Answers.{plannedSays, Writes, PlanAnswer, no-room, bad-table, no-plan, planned, BestPlan}
+use Rattle.planner.specs.Answers.{plannedSays, Writes, PlanAnswer, no-room, bad-table, no-plan, planned, FreePlan, GivenPlan}
 use Rattle.faults.specs.Faults.{Byte, TableIs, GoodPlan, PlanIs}
 use Rattle.faults.specs.Checks.{PlanOf}
 use Rattle.faults.proofs.Tables.{table-is}
@@ -36,20 +34,20 @@ use Rattle.accord.specs.Allows.{FreeAllows, GivenAllows}
 use Rattle.accord.specs.Exact.{PlanStands}
 
 -- the plan behind an answer that says 0
-pub record Behind (IsPlan : ℕ → List Job → List Chosen → Type 0) (s before : List ℕ) (r : Planned) (after : List ℕ) : Type 0 where
+pub record Behind (IsPlan : JobTable → List Chosen → Type 0) (s before : List ℕ) (r : Planned) (after : List ℕ) : Type 0 where
   pub t : JobTable
   pub table : TableIs s (accepted t)
   pub xs : List Chosen
-  pub is : IsPlan (t .deadline) (t .jobs) xs
-  pub writes : Writes xs before r after
+  pub is : IsPlan t xs
+  pub writes : Writes t xs before r after
 
 pub behind :
-    {CanMeet : ℕ → List Job → Type 0} {IsPlan : ℕ → List Job → List Chosen → Type 0} {s before : List ℕ} {r : Planned} {after ns : List ℕ} →
-    All Byte s → PlanAnswer CanMeet IsPlan s before r after → plannedSays r ≡ 0 ∷ ns → Behind IsPlan s before r after
-behind bytes (no-room short h) e = clash (cc (h .says))
-behind {ns = ns} bytes (bad-table m f d h) e = absurd (says-not-zero f ns (sym (h .says) ∙ e))
-behind bytes (no-plan m t d n h) e = clash (cc (h .says))
-behind {s = s} bytes (planned m t d xs p h) e = record { t = t; table = table-is s bytes (accepted t) .0 d; xs = xs; is = p; writes = h }
+    {CanMeet : JobTable → Type 0} {IsPlan : JobTable → List Chosen → Type 0} {before : List ℕ} {r : Planned} {after ns : List ℕ} →
+    (s : List ℕ) → All Byte s → PlanAnswer CanMeet IsPlan (readTable s) before r after → plannedSays r ≡ 0 ∷ ns → Behind IsPlan s before r after
+behind s bytes (no-room short h) e = clash (cc (h .says))
+behind {ns = ns} s bytes (bad-table m f d h) e = absurd (says-not-zero f ns (sym (h .says) ∙ e))
+behind s bytes (no-plan m t d n h) e = clash (cc (h .says))
+behind s bytes (planned m t d xs p h) e = record { t = t; table = table-is s bytes (accepted t) .0 d; xs = xs; is = p; writes = h }
 
 -- it is of the table's jobs
 plan-of : (js : List Job) (xs cs : List Chosen) → Choice js cs → List·Permᴰ xs cs → PlanOf js xs
@@ -59,16 +57,16 @@ plan-of js xs cs choice d =
       allowed = all-perm Allowed (Permᴰ·symm d) (choice .allowed);
     }
 
-pub free-of : (D : ℕ) (js : List Job) (xs : List Chosen) → BestPlan D js xs → PlanOf js xs × Fits D 0 xs
-free-of D js xs p =
+pub free-of : (t : JobTable) (xs : List Chosen) → FreePlan t xs → PlanOf (t .jobs) xs × Fits (t .deadline) 0 xs
+free-of t xs p =
     let cs = p .0 in
     let choice = p .1 .choice in (
-      plan-of js xs cs choice (subst (λ (l : List Chosen). List·Permᴰ l cs) (sym (p .2)) (perm-plan cs (choice .allowed))),
-      subst (Fits D 0) (sym (p .2)) (p .1 .workable),
+      plan-of (t .jobs) xs cs choice (subst (λ (l : List Chosen). List·Permᴰ l cs) (sym (p .2)) (perm-plan cs (choice .allowed))),
+      subst (Fits (t .deadline) 0) (sym (p .2)) (p .1 .workable),
     )
 
-pub given-of : (D : ℕ) (js : List Job) (xs : List Chosen) → BestInOrder D js xs → PlanOf js xs × Fits D 0 xs
-given-of D js xs p = (plan-of js xs xs (p .choice) (Permᴰ·refl xs), p .fits)
+pub given-of : (t : JobTable) (xs : List Chosen) → GivenPlan t xs → PlanOf (t .jobs) xs × Fits (t .deadline) 0 xs
+given-of t xs p = (plan-of (t .jobs) xs xs (p .choice) (Permᴰ·refl xs), p .fits)
 
 -- so its steps are a good plan
 module _ (t : JobTable) (good : GoodTable t) (xs : List Chosen) (of : PlanOf (t .jobs) xs) where
@@ -87,7 +85,7 @@ module _ (t : JobTable) (good : GoodTable t) (xs : List Chosen) (of : PlanOf (t 
       }
 
   -- and stands at the front of the area
-  module _ (before : List ℕ) (r : Planned) (after : List ℕ) (w : Writes xs before r after) where
+  module _ (before : List ℕ) (r : Planned) (after : List ℕ) (w : Writes t xs before r after) where
     abbrev bytes : List ℕ
     bytes = planBytes (stepsFor xs)
 
@@ -127,10 +125,10 @@ module _ (t : JobTable) (good : GoodTable t) (xs : List Chosen) (of : PlanOf (t 
 module _ (s : List ℕ) (bytes : All Byte s) (before : List ℕ) (r : Planned) (after : List ℕ) (n b l : ℕ) (says : plannedSays r ≡ 0 ∷ n ∷ b ∷ l ∷ []) where
   -- The free order: and it is the plan of the best choice, so the tie rule holds.
   pub free-writes : FreeAllows s before r after →
-      (t : JobTable) × (xs : List Chosen) × TableIs s (accepted t) × PlanStands Timetable t xs before after n b l × BestPlan (t .deadline) (t .jobs) xs
-  free-writes allows = let p = behind bytes allows says in (p .t, p .xs, p .table, go (p .t) (p .table .0) (p .xs) (p .is) (p .writes), p .is)
+      (t : JobTable) × (xs : List Chosen) × TableIs s (accepted t) × PlanStands Timetable t xs before after n b l × FreePlan t xs
+  free-writes allows = let p = behind s bytes allows says in (p .t, p .xs, p .table, go (p .t) (p .table .0) (p .xs) (p .is) (p .writes), p .is)
     where
-      go : (t : JobTable) → GoodTable t → (xs : List Chosen) → BestPlan (t .deadline) (t .jobs) xs → Writes xs before r after →
+      go : (t : JobTable) → GoodTable t → (xs : List Chosen) → FreePlan t xs → Writes t xs before r after →
           PlanStands Timetable t xs before after n b l
       go t good xs p w =
           let D = t .deadline in
@@ -139,7 +137,7 @@ module _ (s : List ℕ) (bytes : All Byte s) (before : List ℕ) (r : Planned) (
           let best = p .1 in
           let made = plan-timetable js cs (best .choice) in
           let as-busy : busy xs ≡ busy cs = ap busy (p .2) ∙ total-perm span (perm-plan cs (best .choice .allowed)) in
-          stands t good xs (free-of D js xs p .0) before r after w Timetable n b l says (made .0)
+          stands t good xs (free-of t xs p .0) before r after w Timetable n b l says (made .0)
           (subst (λ (l : List Chosen). List·Permᴰ (laid 0 l) (made .0)) (sym (p .2)) (made .1 .same)) (made .1 .timetable)
           (plan-meets D js cs (made .0) (made .1) (best .workable)) (made .1 .spans ∙ sym as-busy) (made .1 .last ∙ ap (lastFrom 0) (sym (p .2)))
           (λ qs k m. rw as-busy (best-least D js cs best qs k m))
@@ -148,7 +146,7 @@ module _ (s : List ℕ) (bytes : All Byte s) (before : List ℕ) (r : Planned) (
   pub given-writes : GivenAllows s before r after →
       (t : JobTable) × (xs : List Chosen) × TableIs s (accepted t) × PlanStands InOrder t xs before after n b l × (given (t .deadline) 0 (t .jobs) ≡ some xs)
   given-writes allows =
-      let p = behind bytes allows says in
+      let p = behind s bytes allows says in
       let D = p .t .deadline in
       let js = p .t .jobs in
       let xs = p .xs in
@@ -156,7 +154,7 @@ module _ (s : List ℕ) (bytes : All Byte s) (before : List ℕ) (r : Planned) (
         p .t,
         xs,
         p .table,
-        stands (p .t) (p .table .0) xs (given-of D js xs (p .is) .0) before r after (p .writes) InOrder n b l says (laid 0 xs) (Permᴰ·refl (laid 0 xs))
+        stands (p .t) (p .table .0) xs (given-of (p .t) xs (p .is) .0) before r after (p .writes) InOrder n b l says (laid 0 xs) (Permᴰ·refl (laid 0 xs))
             (i .0) (i .1) (laid-spans 0 xs) refl (best-in-order-least D js xs (p .is)),
         best-is-given D js xs (p .is),
       )

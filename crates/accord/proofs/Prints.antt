@@ -20,12 +20,11 @@ use Rattle.table.specs.Limits.{mostJobs, longestPlan}
 use Rattle.table.specs.Refusals.{Outcome, accepted, refused}
 use Rattle.table.specs.Tables.{JobTable, readTable}
 use Rattle.table.proofs.Accepted.{accepted-good}
-use Rattle.plan.specs.Plans.{planBytes}
-use Rattle.draft.specs.Drafts.{stepsFor}
+use Rattle.plan.specs.Plans.{planBytes, stepsFor}
 use Rattle.planner.specs.declared.Planned.{Planned}
 use Rattle.planner.specs.declared.Planned.the-variants.{PlanWritten, NotPlanned}
-use Rattle.planner.specs.Answers.{no-room, bad-table, no-plan, planned, BestPlan, FreeAnswer}
 use Rattle.planner.proofs.Settled.{best-meets, one-best}
+use Rattle.planner.specs.Answers.{no-room, bad-table, no-plan, planned, BestPlan, FreeAnswer}
 use Rattle.faults.specs.Faults.{Byte}
 use Rattle.faults.proofs.Tables.{table-is}
 use Rattle.listing.specs.declared.Listed.{Listed}
@@ -47,8 +46,8 @@ module _ (s : List ℕ) (t : JobTable) (e : readTable s ≡ accepted t) where
   finds-best xs p = step found refl
     where
       step : (o : Option (List Chosen)) → found ≡ o → found ≡ some xs
-      step none q = absurd (free-none-iff mostJobs (t .jobs) few (t .deadline) .0 q (best-meets (t .deadline) (t .jobs) xs p))
-      step (some ys) q = q ∙ ap some (one-best (t .deadline) (t .jobs) ys xs (free-best mostJobs (t .jobs) few (t .deadline) ys q) p)
+      step none q = absurd (free-none-iff mostJobs (t .jobs) few (t .deadline) .0 q (best-meets t xs p))
+      step (some ys) q = q ∙ ap some (one-best t ys xs (free-best mostJobs (t .jobs) few (t .deadline) ys q) p)
 
   text-none : ¬ (Met (t .deadline) (t .jobs)) → textOf s ≡ foundText t none
   unfolding textOf
@@ -66,7 +65,7 @@ module _ (s : List ℕ) (bytes : All Byte s) (before : List ℕ) (r : Planned) (
   text-of (no-plan m t e n h) = subst (TextOf s r after) (sym (text-none s t e n)) (of-refusal None (h .says))
   text-of (planned m t e xs p h) =
       let table = table-is s bytes (accepted t) .0 e in
-      let of = free-of (t .deadline) (t .jobs) xs p .0 in
+      let of = free-of t xs p .0 in
       subst (TextOf s r after) (sym (text-plan s t e xs p))
       (of-plan t xs (length (planBytes (stepsFor xs))) (busy xs) (lastFrom 0 xs) table of (h .says) (front t (table .0) xs of before r after h))
 

@@ -3,7 +3,7 @@
 use Prim.Native.Nat.{ℕ}
 use mathlib.Core.List.{List, []}
 use Rattle.choice.specs.declared.Prepared.{Prepared}
-use Rattle.choice.specs.declared.Found.{Found}
+use Rattle.choice.specs.declared.BestMask.{BestMask}
 use Rattle.choice.specs.declared.EarliestMet.{EarliestMet}
 use Rattle.choice.proofs as choice
 use Rattle.planner.specs.declared.Planned.{Planned}
@@ -26,7 +26,7 @@ abbrev pub ListAllows : List ℕ → List ℕ → Listed → List ℕ → Type 0
 ListAllows s before r after = listing.list_plan.Reads.Learnt ([], ([], tt)) (to s, (to before, tt)) r (to s, (to after, tt))
 
 -- what the planners ask of the table's jobs once they are prepared
-abbrev pub BestAllows : ℕ → Prepared → Found → Type 0
+abbrev pub BestAllows : ℕ → Prepared → BestMask → Type 0
 BestAllows d p r = choice.best_choice.Reads.Learnt tt (d, (p, tt)) r (d, (p, tt))
 
 abbrev pub EarliestAllows : Prepared → EarliestMet → Type 0

@@ -9,8 +9,7 @@ use Rattle.model.specs.FreeOrder.{laid}
 use Rattle.table.specs.declared.refusal.Refusal.{Refusal}
 use Rattle.table.specs.Refusals.{refusalSays, accepted}
 use Rattle.table.specs.Tables.{JobTable}
-use Rattle.plan.specs.Plans.{planBytes}
-use Rattle.draft.specs.Drafts.{stepsFor}
+use Rattle.plan.specs.Plans.{planBytes, stepsFor}
 use Rattle.planner.specs.declared.Planned.{Planned}
 use Rattle.planner.specs.Answers.{plannedSays}
 use Rattle.faults.specs.Faults.{TableIs}

@@ -9,54 +9,55 @@ use lib.ListN.{take}
 use Rattle.model.specs.declared.Job.{Job}
 use Rattle.model.specs.Timetable.{Met}
 use Rattle.model.specs.FreeOrder.{LeastDeadline}
-use Rattle.model.specs.Recurrence.{Cell, empty, cell, cap, bestBelow, orderOf, base, answer, Holds}
+use Rattle.model.specs.Recurrence.{Cell, empty, cell, cap, bestBelow, jobsInAwayOrder, base, answer, Holds}
 use Rattle.model.proofs.Lists.{clash}
 use Rattle.model.proofs.Best.{none-iff-no-timetable}
 use Rattle.model.proofs.LeastDeadline.{turn-least, met-dec, met-mono, least-unique}
 use Rattle.rows.specs.Rows.{nothing}
 use Rattle.table.specs.Limits.{largestTime}
 use Rattle.choice.specs.declared.Prepared.{Prepared}
-use Rattle.choice.specs.declared.Found.the-variants.{Mask, Nothing}
+use Rattle.choice.specs.declared.BestMask.the-variants.{Mask, Nothing}
 use Rattle.choice.specs.declared.EarliestMet.{EarliestMet}
 use Rattle.choice.specs.declared.EarliestMet.the-variants.{MetAt, NeverMet}
-use Rattle.choice.specs.Choices.{preparedOf, foundOf, IsEarliest}
+use Rattle.choice.specs.Choices.{preparedOf, bestMaskOf, IsEarliest}
 use Rattle.choice.proofs.Held.{held-jobs}
 
-mask-of : (d x y : ℕ) (c : Cell) → d ≤ 4000 → Holds nothing x y c → x ≤ d → Mask y ≡ foundOf (cap d c)
+mask-of : (d x y : ℕ) (c : Cell) → d ≤ largestTime → Holds nothing x y c → x ≤ d → Mask y ≡ bestMaskOf (cap d c)
 mask-of d x y empty s h l = absurd (omega arith)
 mask-of d x y (cell a m) s h l = rw (le-leb a d (omega (arith, h .0))) (ap Mask (h .1))
 
-nothing-of : (d x y : ℕ) (c : Cell) → Holds nothing x y c → d < x → Nothing ≡ foundOf (cap d c)
+nothing-of : (d x y : ℕ) (c : Cell) → Holds nothing x y c → d < x → Nothing ≡ bestMaskOf (cap d c)
 nothing-of d x y empty h l = refl
 nothing-of d x y (cell a m) h l = rw (lt-leb a d (omega (arith, h .0)))
 
 -- x and y are what the work rows' columns come to
-module _ (d x y : ℕ) (p : Prepared) (js : List Job) (held : p ≡ preparedOf js) (least : Holds nothing x y (bestBelow d (reverse (take (p .count) (p .jobs))) (p .base) (suc d))) where
+module _ (d x y : ℕ) (p : Prepared) (js : List Job) (held : p ≡ preparedOf js)
+    (least : Holds nothing x y (bestBelow d (reverse (take (p .count) (p .jobs))) (p .base) (suc d))) where
   abbrev best : Cell
-  best = bestBelow d (reverse (orderOf js)) (base js) (suc d)
+  best = bestBelow d (reverse (jobsInAwayOrder js)) (base js) (suc d)
 
   is-least : Holds nothing x y best
   is-least = rw (held-jobs p js held, ap (λ (q : Prepared). q .base) held) at least
 
-  pub answer-mask : d ≤ 4000 → x ≤ d → Mask y ≡ foundOf (answer d js)
+  pub answer-mask : d ≤ largestTime → x ≤ d → Mask y ≡ bestMaskOf (answer d js)
   answer-mask s l = mask-of d x y best s is-least l
 
-  pub answer-nothing : d < x → Nothing ≡ foundOf (answer d js)
+  pub answer-nothing : d < x → Nothing ≡ bestMaskOf (answer d js)
   answer-nothing l = nothing-of d x y best is-least l
 
 module _ (d : ℕ) (js : List Job) where
   -- a mask is found exactly where some timetable meets the deadline
-  pub met-found : (m : ℕ) → Mask m ≡ foundOf (answer d js) → Met d js
+  pub met-found : (m : ℕ) → Mask m ≡ bestMaskOf (answer d js) → Met d js
   met-found m e = step (met-dec js d)
     where
       step : Dec (Met d js) → Met d js
       step (yes h) = h
       step (no n) = clash (cc (none-iff-no-timetable d js .1 n))
 
-  pub unmet-found : Nothing ≡ foundOf (answer d js) → ¬ (Met d js)
+  pub unmet-found : Nothing ≡ bestMaskOf (answer d js) → ¬ (Met d js)
   unmet-found e = none-iff-no-timetable d js .0 (step (answer d js) e)
     where
-      step : (c : Cell) → Nothing ≡ foundOf c → c ≡ empty
+      step : (c : Cell) → Nothing ≡ bestMaskOf c → c ≡ empty
       step empty e = refl
       step (cell a m) e = clash (cc)
 
@@ -73,8 +74,8 @@ closed p low high b h js held =
     rw n (turn-least js largestTime low (omega (arith, b .within)) (b .unmet js held) (rw n at (b .met js held)))
 
 -- what the bisection may answer is one deadline, or never
-pub earliest-settled : (js : List Job) (r q : EarliestMet) → IsEarliest js r → IsEarliest js q → r ≡ q
-earliest-settled js (MetAt d) (MetAt e) h k = ap MetAt (least-unique js largestTime d e h k)
-earliest-settled js (MetAt d) NeverMet h k = absurd (k (met-mono js d largestTime (h .high) (h .met)))
-earliest-settled js NeverMet (MetAt e) h k = absurd (h (met-mono js e largestTime (k .high) (k .met)))
-earliest-settled js NeverMet NeverMet h k = refl
+pub earliest-settled : (N : ℕ) (js : List Job) (r q : EarliestMet) → IsEarliest N js r → IsEarliest N js q → r ≡ q
+earliest-settled N js (MetAt d) (MetAt e) h k = ap MetAt (least-unique js N d e h k)
+earliest-settled N js (MetAt d) NeverMet h k = absurd (k (met-mono js d N (h .high) (h .met)))
+earliest-settled N js NeverMet (MetAt e) h k = absurd (h (met-mono js e N (k .high) (k .met)))
+earliest-settled N js NeverMet NeverMet h k = refl

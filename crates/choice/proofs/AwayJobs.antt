@@ -9,13 +9,12 @@ use lib.ListN.{length, getD, replicate, length-map, length-append}
 use Rattle.model.specs.declared.Job.{Job}
 use Rattle.model.specs.Lists.{filter, falling}
 use Rattle.model.specs.Timetable.{isEither, returnTime}
-use Rattle.model.specs.Recurrence.{orderOf}
+use Rattle.model.specs.Recurrence.{jobsInAwayOrder}
 use Rattle.model.specs.Positions.{countFrom, noJob, canGoAt, places}
-use Rattle.model.proofs.Lists.{all-at}
+use Rattle.model.proofs.Lists.{all-at, padded}
 use Rattle.model.proofs.Permutations.{length-perm, perm-falling, perm-split}
 use Rattle.model.proofs.Sorts.{map-filter, map-falling}
 use Rattle.model.proofs.Places.{places-below}
-use Rattle.order.proofs.Inserted.{padded}
 use Rattle.choice.specs.Choices.{jobsAt}
 
 module _ {A : Type 0} where
@@ -34,7 +33,7 @@ module _ {A : Type 0} where
       omega (arith, length-perm (perm-falling key (filter f xs)), length-perm (perm-split f xs), length-append (filter f xs) (filter (λ (x : A). not (f x)) xs))
 
 -- the jobs in away order are those at the positions in away order
-pub order-jobs : (js : List Job) → orderOf js ≡ jobsAt js (places js)
+pub order-jobs : (js : List Job) → jobsInAwayOrder js ≡ jobsAt js (places js)
 order-jobs js =
     sym
     (map-falling at returnTime (filter (canGoAt js) (countFrom 0 (length js)))
@@ -43,7 +42,7 @@ order-jobs js =
     at : ℕ → Job
     at i = getD js i noJob
 
-pub as-many : (js : List Job) → length (orderOf js) ≡ length (places js)
+pub as-many : (js : List Job) → length (jobsInAwayOrder js) ≡ length (places js)
 as-many js = ap length (order-jobs js) ∙ length-map (places js) (λ (i : ℕ). getD js i noJob)
 
 pub places-few : (js : List Job) → length (places js) ≤ length js

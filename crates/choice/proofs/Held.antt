@@ -10,10 +10,11 @@ use lib.Seq.{take-at}
 use Rattle.model.specs.declared.Job.{Job}
 use Rattle.model.specs.Lists.{All, filter}
 use Rattle.model.specs.Timetable.{isEither, returnTime}
-use Rattle.model.specs.Recurrence.{orderOf, base}
+use Rattle.model.specs.Recurrence.{jobsInAwayOrder, base}
 use Rattle.model.specs.Positions.{places, digits, marked}
 use Rattle.model.proofs.Lists.{all-map, all-filter}
 use Rattle.model.proofs.Permutations.{all-perm, perm-falling}
+use Rattle.table.specs.Limits.{mostJobs, largestTime}
 use Rattle.rows.specs.Rows as rows
 use Rattle.table.specs.Tables.{TimesOk}
 use Rattle.choice.specs.declared.Prepared.{Prepared}
@@ -24,11 +25,11 @@ module _ (p : Prepared) (js : List Job) (held : p ≡ preparedOf js) where
   pub held-places : take (p .count) (p .places) ≡ places js
   held-places = rw held (take-at (places js) _ (length (places js)) refl)
 
-  pub held-jobs : take (p .count) (p .jobs) ≡ orderOf js
-  held-jobs = rw held (take-at (orderOf js) _ (length (places js)) (as-many js))
+  pub held-jobs : take (p .count) (p .jobs) ≡ jobsInAwayOrder js
+  held-jobs = rw held (take-at (jobsInAwayOrder js) _ (length (places js)) (as-many js))
 
   -- the flags by the positions that are held
-  pub held-flags : (m : ℕ) → marked (take (p .count) (p .places)) (digits (p .count) m) (replicate 32 false) ≡ flagsOf js m
+  pub held-flags : (m : ℕ) → marked (take (p .count) (p .places)) (digits (p .count) m) (replicate mostJobs false) ≡ flagsOf js m
   held-flags m = rw (held-places, ap (λ (q : Prepared). q .count) held)
 
 here-small : (j : Job) → hereTime j ≤ j .local
@@ -38,22 +39,22 @@ here-small j = step (isEither j)
     step true = omega arith
     step false = omega arith
 
-base-small : (js : List Job) → All TimesOk js → base js ≤ 4000 * length js
+base-small : (js : List Job) → All TimesOk js → base js ≤ largestTime * length js
 base-small [] a = omega arith
 base-small (j ∷ js) a = omega (arith, here-small j, a .0 .local, base-small js (a .1))
 
 module _ (p : Prepared) (r : Ready p) where
-  pub ready-few : p .count ≤ 32
+  pub ready-few : p .count ≤ mostJobs
   ready-few = rw (r .held) (omega (arith, places-few (r .js), r .sound .few))
 
-  pub ready-place : (k : ℕ) → k < p .count → getD (p .places) k 0 < 32
-  ready-place = rw (r .held) (λ k h. omega (arith, place-below (r .js) (32 - length (places (r .js))) k h, r .sound .few))
+  pub ready-place : (k : ℕ) → k < p .count → getD (p .places) k 0 < mostJobs
+  ready-place = rw (r .held) (λ k h. omega (arith, place-below (r .js) (mostJobs - length (places (r .js))) k h, r .sound .few))
 
   pub ready-whole : length (take (p .count) (p .places)) ≡ p .count
   ready-whole = ap length (held-places p (r .js) (r .held)) ∙ sym (ap (λ (q : Prepared). q .count) (r .held))
 
   -- the work rows can be asked
-  pub ready-rows : (d : ℕ) → d ≤ 4000 → rows.Ready d (p .base) (p .jobs) (p .count)
+  pub ready-rows : (d : ℕ) → d ≤ largestTime → rows.WithinRows d (p .base) (p .jobs) (p .count)
   ready-rows d h =
       record {
         deadline = h;
@@ -62,7 +63,7 @@ module _ (p : Prepared) (r : Ready p) where
         locals = rw (held-jobs p (r .js) (r .held)) small;
       }
     where
-      small : All (λ (j : Job). j .local ≤ 4000) (orderOf (r .js))
+      small : All (λ (j : Job). j .local ≤ largestTime) (jobsInAwayOrder (r .js))
       small =
-          all-perm (λ (j : Job). j .local ≤ 4000) (Permᴰ·symm (perm-falling returnTime (filter isEither (r .js))))
-          (all-filter (λ (j : Job). j .local ≤ 4000) isEither (r .js) (all-map (λ (j : Job) (t : TimesOk j). t .local) (r .js) (r .sound .times)))
+          all-perm (λ (j : Job). j .local ≤ largestTime) (Permᴰ·symm (perm-falling returnTime (filter isEither (r .js))))
+          (all-filter (λ (j : Job). j .local ≤ largestTime) isEither (r .js) (all-map (λ (j : Job) (t : TimesOk j). t .local) (r .js) (r .sound .times)))

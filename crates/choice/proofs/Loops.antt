@@ -13,6 +13,7 @@ use Rattle.model.specs.declared.Job.{Job}
 use Rattle.model.specs.Recurrence.{base}
 use Rattle.model.specs.Positions.{noJob, digits, marked}
 use Rattle.model.proofs.Permutations.{total-append}
+use Rattle.table.specs.Limits.{mostJobs}
 use Rattle.choice.specs.Choices.{hereTime, jobsAt}
 
 -- one job more adds what it keeps here in any case
@@ -20,14 +21,15 @@ pub base-more : (jobs : List Job) (k : ℕ) → k < length jobs → base (take (
 base-more jobs k h = rw (add-one, take-suc jobs k noJob) (omega (arith, total-append hereTime (take k jobs) (getD jobs k noJob ∷ [])))
 
 -- the k-th place's job is put behind those before it
-pub jobs-more : (jobs : List Job) (places : List ℕ) (k : ℕ) → length places ≡ 32 → k < 32
-    → set (jobsAt jobs (take k places) ++ replicate (32 - k) noJob) k (getD jobs (getD places k 0) noJob)
-    ≡ jobsAt jobs (take (k + 1) places) ++ replicate (32 - (k + 1)) noJob
+pub jobs-more : (jobs : List Job) (places : List ℕ) (k : ℕ) → length places ≡ mostJobs → k < mostJobs
+    → set (jobsAt jobs (take k places) ++ replicate (mostJobs - k) noJob) k (getD jobs (getD places k 0) noJob)
+    ≡ jobsAt jobs (take (k + 1) places) ++ replicate (mostJobs - (k + 1)) noJob
 jobs-more jobs places k l h =
     rw more
-    (set-at (jobsAt jobs (take k places)) noJob (replicate (32 - (k + 1)) noJob) job k (length-map (take k places) at ∙ length-take-le k places (omega arith))
-    ∙ sym (append-snoc (jobsAt jobs (take k places)) job (replicate (32 - (k + 1)) noJob))
-    ∙ ap (λ (l : List Job). l ++ replicate (32 - (k + 1)) noJob) (sym (ap (jobsAt jobs) taken ∙ map-append at (take k places) (getD places k 0 ∷ []))))
+    (set-at (jobsAt jobs (take k places)) noJob (replicate (mostJobs - (k + 1)) noJob) job k
+    (length-map (take k places) at ∙ length-take-le k places (omega arith))
+    ∙ sym (append-snoc (jobsAt jobs (take k places)) job (replicate (mostJobs - (k + 1)) noJob))
+    ∙ ap (λ (l : List Job). l ++ replicate (mostJobs - (k + 1)) noJob) (sym (ap (jobsAt jobs) taken ∙ map-append at (take k places) (getD places k 0 ∷ []))))
   where
     at : ℕ → Job
     at i = getD jobs i noJob
@@ -35,7 +37,7 @@ jobs-more jobs places k l h =
     job : Job
     job = at (getD places k 0)
 
-    more : 32 - k ≡ suc (32 - (k + 1))
+    more : mostJobs - k ≡ suc (mostJobs - (k + 1))
     more = omega arith
 
     taken : take (k + 1) places ≡ take k places ++ (getD places k 0 ∷ [])
@@ -44,12 +46,12 @@ jobs-more jobs places k l h =
 -- the first k places are marked: what is left of the mask still marks the others as the whole mask does
 pub record Marking (is : List ℕ) (count mask : ℕ) (flags : List Bool) (left k : ℕ) : Type 0 where
   pub within : k ≤ count
-  pub size : length flags ≡ 32
-  pub rest : marked (drop k is) (digits (count - k) left) flags ≡ marked is (digits count mask) (replicate 32 false)
+  pub size : length flags ≡ mostJobs
+  pub rest : marked (drop k is) (digits (count - k) left) flags ≡ marked is (digits count mask) (replicate mostJobs false)
 
 module _ (is : List ℕ) (count mask : ℕ) where
-  pub marking-none : Marking is count mask (replicate 32 false) mask 0
-  marking-none = let z : count - 0 ≡ count = omega arith in record { within = omega arith; size = length-replicate 32 false; rest = rw z refl }
+  pub marking-none : Marking is count mask (replicate mostJobs false) mask 0
+  marking-none = let z : count - 0 ≡ count = omega arith in record { within = omega arith; size = length-replicate mostJobs false; rest = rw z refl }
 
   module _ (whole : length is ≡ count) (flags : List Bool) (left k : ℕ) (m : Marking is count mask flags left k) where
     pub marking-more : (i : ℕ) → getD is k 0 ≡ i → k < count → Marking is count mask (set flags i (eqb (left % 2) 1)) (left / 2) (k + 1)
@@ -58,7 +60,7 @@ module _ (is : List ℕ) (count mask : ℕ) where
         let l : k < length is = omega arith in
         record { within = omega arith; size = length-set flags i _ ∙ m .size; rest = rw (← e, add-one) (rw (n, drop-cons is k 0) at (m .rest)) }
 
-    pub marking-all : count ≤ k → flags ≡ marked is (digits count mask) (replicate 32 false)
+    pub marking-all : count ≤ k → flags ≡ marked is (digits count mask) (replicate mostJobs false)
     marking-all h =
         let n : count - k ≡ 0 = omega arith in
         let l : length is ≤ k = omega arith in

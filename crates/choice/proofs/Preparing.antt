@@ -8,9 +8,10 @@ use lib.ListN.{length, getD, take, replicate, length-take}
 use lib.Seq.{take-at, getD-take}
 use Rattle.model.specs.declared.Job.{Job}
 use Rattle.model.specs.Lists.{All}
-use Rattle.model.specs.Recurrence.{orderOf, base}
+use Rattle.model.specs.Recurrence.{jobsInAwayOrder, base}
 use Rattle.model.specs.Positions.{noJob, places}
 use Rattle.model.proofs.Places.{places-below}
+use Rattle.table.specs.Limits.{mostJobs}
 use Rattle.order.specs.declared.AwayOrder.{AwayOrder}
 use Rattle.order.specs.Order as away
 use Rattle.table.specs.declared.Table.{Table}
@@ -27,21 +28,23 @@ same-jobs jobs n (i ∷ is) a =
     let r : jobsAt jobs is ≡ jobsAt (take n jobs) is = same-jobs jobs n is (a .1) in
     cc
 
-module _ (t : Table) (s : Sound t) (order : AwayOrder) (e : order ≡ away.orderOf (places (jobTable t .jobs))) where
+module _ (t : Table) (s : Sound t) (order : AwayOrder) (e : order ≡ away.awayOrderOf (places (jobTable t .jobs))) where
   abbrev js : List Job
   js = jobTable t .jobs
 
-  pub order-ready : (order .count ≤ 32) × ((k : ℕ) → k < order .count → getD (order .places) k 0 < 32)
-  order-ready = rw e (omega (arith, places-few js, s .good .few), λ k h. omega (arith, place-below js (32 - length (places js)) k h, s .good .few))
+  pub order-ready : (order .count ≤ mostJobs) × ((k : ℕ) → k < order .count → getD (order .places) k 0 < mostJobs)
+  order-ready = rw e (omega (arith, places-few js, s .good .few), λ k h. omega (arith, place-below js (mostJobs - length (places js)) k h, s .good .few))
 
-  pub prepared : (jobs : List Job) (sum : ℕ) → jobs ≡ jobsAt (t .jobs) (take (order .count) (order .places)) ++ replicate (32 - order .count) noJob → sum ≡ base js
+  pub prepared : (jobs : List Job) (sum : ℕ)
+      → jobs ≡ jobsAt (t .jobs) (take (order .count) (order .places)) ++ replicate (mostJobs - order .count) noJob → sum ≡ base js
       → _≡_ {A = Prepared} (record { count = order .count; places = order .places; jobs = jobs; base = sum }) (preparedOf js)
   prepared jobs sum p q =
-      let a : jobs ≡ orderOf js ++ replicate (32 - length (orderOf js)) noJob = p ∙ all in
+      let a : jobs ≡ jobsInAwayOrder js ++ replicate (mostJobs - length (jobsInAwayOrder js)) noJob = p ∙ all in
       λ i. record { count = e i .count; places = e i .places; jobs = a i; base = q i }
     where
-      ordered : jobsAt (t .jobs) (places js) ≡ orderOf js
+      ordered : jobsAt (t .jobs) (places js) ≡ jobsInAwayOrder js
       ordered = same-jobs (t .jobs) (t .count) (places js) (places-below js) ∙ sym (order-jobs js)
 
-      all : jobsAt (t .jobs) (take (order .count) (order .places)) ++ replicate (32 - order .count) noJob ≡ orderOf js ++ replicate (32 - length (orderOf js)) noJob
-      all = rw (e, take-at (places js) (replicate (32 - length (places js)) 0) (length (places js)) refl, ordered, as-many js) refl
+      all : jobsAt (t .jobs) (take (order .count) (order .places)) ++ replicate (mostJobs - order .count) noJob
+          ≡ jobsInAwayOrder js ++ replicate (mostJobs - length (jobsInAwayOrder js)) noJob
+      all = rw (e, take-at (places js) (replicate (mostJobs - length (places js)) 0) (length (places js)) refl, ordered, as-many js) refl

@@ -9,15 +9,15 @@ use Rattle.model.specs.declared.Job.{Job}
 use Rattle.model.specs.Lists.{All}
 use Rattle.model.specs.Timetable.{isEither, Met}
 use Rattle.model.specs.FreeOrder.{LeastDeadline}
-use Rattle.model.specs.Recurrence.{Cell, empty, cell, orderOf, base}
+use Rattle.model.specs.Recurrence.{Cell, empty, cell, jobsInAwayOrder, base}
 use Rattle.model.specs.Positions.{noJob, places, digits, marked}
 use Rattle.table.specs.declared.refusal.Refusal.the-variants.{None}
 use Rattle.table.specs.Limits.{mostJobs, largestTime}
 use Rattle.table.specs.Refusals.{refusalSays}
 use Rattle.table.specs.Tables.{TimesOk}
 use Rattle.choice.specs.declared.Prepared.{Prepared}
-use Rattle.choice.specs.declared.Found.{Found}
-use Rattle.choice.specs.declared.Found.the-variants.{Mask, Nothing}
+use Rattle.choice.specs.declared.BestMask.{BestMask}
+use Rattle.choice.specs.declared.BestMask.the-variants.{Mask, Nothing}
 use Rattle.choice.specs.declared.EarliestMet.{EarliestMet}
 use Rattle.choice.specs.declared.EarliestMet.the-variants.{MetAt, NeverMet}
 
@@ -35,7 +35,7 @@ preparedOf js =
     record {
       count = length (places js);
       places = places js ++ replicate (mostJobs - length (places js)) 0;
-      jobs = orderOf js ++ replicate (mostJobs - length (orderOf js)) noJob;
+      jobs = jobsInAwayOrder js ++ replicate (mostJobs - length (jobsInAwayOrder js)) noJob;
       base = base js;
     }
 
@@ -51,29 +51,29 @@ pub record Ready (p : Prepared) : Type 0 where
   pub held : p ≡ preparedOf js
 
 -- the mask of the planner's answer
-abbrev pub foundOf : Cell → Found
-foundOf empty = Nothing
-foundOf (cell a m) = Mask m
+abbrev pub bestMaskOf : Cell → BestMask
+bestMaskOf empty = Nothing
+bestMaskOf (cell a m) = Mask m
 
 -- a flag for each position: whether the choice that the mask stands for has the job there away
 abbrev pub flagsOf : List Job → ℕ → List Bool
 flagsOf js m = marked (places js) (digits (length (places js)) m) (replicate mostJobs false)
 
 -- what is said is whether P holds
-pub record Tells (said : Bool) (P : Type 0) : Type 0 where
+pub record SaysWhether (said : Bool) (P : Type 0) : Type 0 where
   pub yes : said ≡ true → P
   pub no : said ≡ false → ¬ P
 
--- "the smallest D in 1..4,000 that some timetable meets ..; NONE if 4,000 is not met"
-abbrev pub IsEarliest : List Job → EarliestMet → Type 0
-IsEarliest js (MetAt d) = LeastDeadline largestTime js d
-IsEarliest js NeverMet = ¬ (Met largestTime js)
+-- "the smallest D in 1..N that some timetable meets ..; NONE if N is not met"; N is the largest time
+abbrev pub IsEarliest : ℕ → List Job → EarliestMet → Type 0
+IsEarliest N js (MetAt d) = LeastDeadline N js d
+IsEarliest N js NeverMet = ¬ (Met N js)
 
 -- Number and values: 0 with the mask, or with the deadline; else NONE's.
 
-abbrev pub foundSays : Found → List ℕ
-foundSays (Mask m) = 0 ∷ m ∷ []
-foundSays Nothing = refusalSays None
+abbrev pub bestMaskSays : BestMask → List ℕ
+bestMaskSays (Mask m) = 0 ∷ m ∷ []
+bestMaskSays Nothing = refusalSays None
 
 abbrev pub earliestSays : EarliestMet → List ℕ
 earliestSays (MetAt d) = 0 ∷ d ∷ []

@@ -13,7 +13,7 @@ ghost use Rattle.model.specs.Recurrence.{answer, base};
 ghost use Rattle.model.specs.Positions.{noJob};
 ghost use Rattle.table.specs.Limits.{largestTime, mostJobs};
 ghost use Rattle.table.specs.Tables.{jobTable, Sound};
-ghost use Rattle.choice.specs.Choices.{preparedOf, Ready, flagsOf, foundOf, IsEarliest, hereTime, jobsAt, Tells};
+ghost use Rattle.choice.specs.Choices.{preparedOf, Ready, flagsOf, bestMaskOf, IsEarliest, hereTime, jobsAt, SaysWhether};
 
 // The either jobs in away order and their positions in the table, and the local times of the here-only jobs in all.
 pub struct Prepared {
@@ -24,7 +24,7 @@ pub struct Prepared {
 }
 
 // The best choice at a deadline: bit j says that the j-th job in away order is away.
-pub enum Found {
+pub enum BestMask {
     Mask(u32),
     Nothing,
 }
@@ -98,16 +98,16 @@ pub fn prepare(t: Table) -> Prepared
 }
 
 // The best choice at the deadline d, or nothing where no choice meets it.
-pub fn best_choice(d: u16, p: Prepared) -> Found
+pub fn best_choice(d: u16, p: Prepared) -> BestMask
     requires { ⌜ (d ≤ largestTime) × Ready p ⌝ }
-    ensures { λ r. ⌜ ((js : List Job) → p ≡ preparedOf js → r ≡ foundOf (answer d js)) ⌝ }
+    ensures { λ r. ⌜ ((js : List Job) → p ≡ preparedOf js → r ≡ bestMaskOf (answer d js)) ⌝ }
 {
     let jobs = p.jobs;
     let least = rows::least(d as usize, p.base, jobs, p.count);
     if least.total <= d as u32 {
-        Found::Mask(least.mask)
+        BestMask::Mask(least.mask)
     } else {
-        Found::Nothing
+        BestMask::Nothing
     }
 }
 
@@ -131,19 +131,19 @@ pub fn flags_of(p: Prepared, mask: u32) -> [bool; Table::MOST_JOBS]
 // Whether some timetable meets the deadline d.
 fn meets(d: u16, p: Prepared) -> bool
     requires { ⌜ (d ≤ largestTime) × Ready p ⌝ }
-    ensures { λ r. ⌜ ((js : List Job) → p ≡ preparedOf js → Tells r (Met d js)) ⌝ }
+    ensures { λ r. ⌜ ((js : List Job) → p ≡ preparedOf js → SaysWhether r (Met d js)) ⌝ }
 {
     let found = best_choice(d, p);
     match found {
-        Found::Mask(_) => true,
-        Found::Nothing => false,
+        BestMask::Mask(_) => true,
+        BestMask::Nothing => false,
     }
 }
 
 // The least deadline that some timetable meets. `high` is met, and `low` is not, or is 0: the two are brought together.
 pub fn earliest(p: Prepared) -> EarliestMet
     requires { ⌜ Ready p ⌝ }
-    ensures { λ r. ⌜ ((js : List Job) → p ≡ preparedOf js → IsEarliest js r) ⌝ }
+    ensures { λ r. ⌜ ((js : List Job) → p ≡ preparedOf js → IsEarliest largestTime js r) ⌝ }
 {
     if !meets(Table::LARGEST_TIME, p) {
         return EarliestMet::NeverMet;

@@ -3,63 +3,33 @@
 use mathlib.Core.Path.{_≡_, refl, ap, sym, _∙_}
 use mathlib.Core.Bool.{Bool, true, false, cond}
 use mathlib.Core.List.{List, [], _∷_, _++_, append-nil, append-assoc}
-use Prim.Native.Nat.{ℕ, zero, suc, _+_, _*_, _≤_, _<_}
+use Prim.Native.Nat.{ℕ, _+_, _*_, _≤_, _<_}
 use native.Mathlib.Omega.{arith}
 use native.Mathlib.Numerals.{add-one}
-use lib.ListN.{length, getD, take, length-map, length-append}
+use lib.ListN.{length, getD, take, length-append}
 use lib.Seq.{take-suc}
 use Rattle.model.specs.Lists.{All, filter}
 use Rattle.model.specs.Timetable.{Chosen, span}
+use Rattle.model.specs.Laying.{mostBusy}
 use Rattle.model.specs.FreeOrder.{busy}
-use Rattle.model.proofs.Lists.{all-filter}
+use Rattle.model.proofs.Lists.{all-filter, all-take, take-all, filter-take}
 use Rattle.model.proofs.Permutations.{total-append}
 use Rattle.model.proofs.Workable.{filter-append}
+use Rattle.model.proofs.Bounds.{spans-short}
 use Rattle.model.proofs.Laying.{laid-more}
 use Rattle.table.specs.Limits.{mostJobs, largestTime}
-use Rattle.plan.specs.declared.Step.{Step}
-use Rattle.plan.specs.Plans.{planOf}
-use Rattle.plan.proofs.Steps.{with-step-of}
+use Rattle.plan.specs.Plans.{planOf, stepOf, stepsFor}
+use Rattle.plan.proofs.Steps.{with-step-of, steps-append, steps-length}
 use Rattle.draft.specs.declared.Draft.{Draft}
-use Rattle.draft.specs.Drafts.{stepOf, stepsFor, draftOf, withChosen, withIf}
-
-pub steps-append : (cs ds : List Chosen) → stepsFor (cs ++ ds) ≡ stepsFor cs ++ stepsFor ds
-steps-append [] ds = refl
-steps-append (c ∷ cs) ds = ap (λ (l : List Step). stepOf c ∷ l) (steps-append cs ds)
-
-pub steps-length : (cs : List Chosen) → length (stepsFor cs) ≡ length cs
-steps-length cs = length-map cs stepOf
+use Rattle.draft.specs.Drafts.{draftOf, withChosen, withIf}
 
 pub draft-more : (cs : List Chosen) (c : Chosen) → length cs < mostJobs → withChosen (draftOf cs) c ≡ draftOf (cs ++ (c ∷ []))
 draft-more cs c h =
     let p = with-step-of (stepsFor cs) (stepOf c) (omega (arith, steps-length cs)) ∙ ap planOf (sym (steps-append cs (c ∷ []))) in
     λ i. record { plan = p i; laid = laid-more cs c i }
 
-module _ {A : Type 0} where
-  take-all : (xs : List A) (i : ℕ) → length xs ≤ i → take i xs ≡ xs
-  take-all [] zero h = refl
-  take-all [] (suc i) h = refl
-  take-all (x ∷ xs) zero h = absurd (omega arith)
-  take-all (x ∷ xs) (suc i) h = ap (λ (l : List A). x ∷ l) (take-all xs i (omega arith))
-
-  all-take : (P : A → Type 0) (xs : List A) (i : ℕ) → All P xs → All P (take i xs)
-  all-take P [] zero a = tt
-  all-take P [] (suc i) a = tt
-  all-take P (x ∷ xs) zero a = tt
-  all-take P (x ∷ xs) (suc i) a = (a .0, all-take P xs i (a .1))
-
-  filter-take : (f : A → Bool) (xs : List A) (i : ℕ) → length (filter f (take i xs)) ≤ length (filter f xs)
-  filter-take f [] zero = omega arith
-  filter-take f [] (suc i) = omega arith
-  filter-take f (x ∷ xs) zero = omega arith
-  filter-take f (x ∷ xs) (suc i) = step (f x) (filter-take f xs i)
-    where
-      step : (b : Bool) → length (filter f (take i xs)) ≤ length (filter f xs) → length (cond b (x ∷ filter f (take i xs)) (filter f (take i xs))) ≤ length (cond b (x ∷ filter f xs) (filter f xs))
-      step true h = omega arith
-      step false h = h
-
-pub spans-short : (cs : List Chosen) → All (λ (c : Chosen). span c ≤ largestTime) cs → busy cs ≤ largestTime * length cs
-spans-short [] a = omega arith
-spans-short (c ∷ cs) a = omega (arith, a .0, spans-short cs (a .1))
+abbrev Short : Chosen → Type 0
+Short c = span c ≤ largestTime
 
 -- A pass over jobs of which those that pass a test are listed behind others: what it keeps after i of them.
 module _ (f : Chosen → Bool) (front cs : List Chosen) where
@@ -98,11 +68,11 @@ module _ (f : Chosen → Bool) (front cs : List Chosen) where
           filter-take f cs (i + 1),
         )
 
-    pub listing-room : f c ≡ true → (draft .plan .count < 32) × (draft .laid .busy ≤ 4000000000)
+    pub listing-room : f c ≡ true → (draft .plan .count < mostJobs) × (draft .laid .busy ≤ mostBusy)
     listing-room e =
         let n : length (filter f (c ∷ [])) ≡ 1 = rw e in
         let b = total-append span front (filter f (take i cs)) in
-        let s = spans-short (filter f (take i cs)) (all-filter (λ (x : Chosen). span x ≤ largestTime) f (take i cs) (all-take (λ (x : Chosen). span x ≤ largestTime) cs i (roomy .short))) in
+        let s = spans-short largestTime (filter f (take i cs)) (all-filter Short f (take i cs) (all-take Short cs i (roomy .short))) in
         rw (l .held) (
           omega (arith, steps-length (listedTo i), held-few),
           omega (arith, roomy .early, roomy .few, held-few, length-append front (filter f (take i cs))),

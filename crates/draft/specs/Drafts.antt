@@ -1,21 +1,13 @@
 -- A plan in the making: the jobs laid so far in plan order, as steps and as numbers.
 -- Assumes nothing.
 use mathlib.Core.Bool.{Bool, true, false, cond}
-use mathlib.Core.List.{List, [], map}
+use mathlib.Core.List.{List, []}
 use mathlib.Core.Option.{Option, none, some}
 use Rattle.model.specs.Timetable.{Chosen}
 use Rattle.model.specs.Laying.{laidOf, laidWith}
-use Rattle.plan.specs.declared.Step.{Step}
-use Rattle.plan.specs.Plans.{planOf, withStep}
+use Rattle.plan.specs.Plans.{planOf, withStep, stepOf, stepsFor}
 use Rattle.draft.specs.declared.Draft.{Draft}
 use Rattle.draft.specs.declared.Drafted.{Drafted}
-
--- a job with its choice, as a line of a plan
-abbrev pub stepOf : Chosen → Step
-stepOf c = record { id = c .job .id; away = c .away }
-
-abbrev pub stepsFor : List Chosen → List Step
-stepsFor cs = map stepOf cs
 
 -- the draft that has these jobs, in this order
 abbrev pub draftOf : List Chosen → Draft

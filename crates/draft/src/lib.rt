@@ -7,7 +7,7 @@ ghost use mathlib.Core.Path.{_≡_};
 ghost use mathlib.Core.Bool.{true};
 ghost use mathlib.Core.List.{[]};
 ghost use Prim.Native.Nat.{_≤_, _<_};
-ghost use Rattle.model.specs.Laying.{chosen};
+ghost use Rattle.model.specs.Laying.{chosen, mostBusy};
 ghost use Rattle.table.specs.Limits.{mostJobs};
 ghost use Rattle.draft.specs.Drafts.{draftOf, withChosen, withIf};
 
@@ -34,7 +34,7 @@ impl Draft {
 
     // With one job more at its end.
     pub fn with_job(self, job: Job, away: bool) -> Draft
-        requires { ⌜ (self .plan .count < mostJobs) × (self .laid .busy ≤ 4000000000) ⌝ }
+        requires { ⌜ (self .plan .count < mostJobs) × (self .laid .busy ≤ mostBusy) ⌝ }
         ensures { λ r. ⌜ r ≡ withChosen self (chosen job away) ⌝ }
     {
         let before = self.plan;
@@ -46,7 +46,7 @@ impl Draft {
 
     // With one job more at its end, if it is listed.
     pub fn with_if(self, listed: bool, job: Job, away: bool) -> Draft
-        requires { ⌜ (listed ≡ true → (self .plan .count < mostJobs) × (self .laid .busy ≤ 4000000000)) ⌝ }
+        requires { ⌜ (listed ≡ true → (self .plan .count < mostJobs) × (self .laid .busy ≤ mostBusy)) ⌝ }
         ensures { λ r. ⌜ r ≡ withIf self listed (chosen job away) ⌝ }
     {
         if listed {

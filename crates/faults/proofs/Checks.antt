@@ -27,8 +27,7 @@ use Rattle.table.specs.Records.{used}
 use Rattle.table.specs.Tables.{JobTable, GoodTable, jobId}
 use Rattle.table.proofs.Listed.{Distinct, unused-differs, differs-unused}
 use Rattle.plan.specs.declared.Step.{Step}
-use Rattle.plan.specs.Plans.{stepId}
-use Rattle.draft.specs.Drafts.{stepsFor}
+use Rattle.plan.specs.Plans.{stepId, stepsFor}
 use Rattle.judge.specs.declared.Checked.{Checked}
 use Rattle.judge.specs.declared.Checked.the-variants.{Passes, Fails}
 use Rattle.judge.specs.Check.{jobOf, chosenBy, before, listed, lacksOne, timed, afterPlan, afterTable, checkPlan}

@@ -16,8 +16,7 @@ use Rattle.table.proofs.Accepted.{held-table}
 use Rattle.table.proofs.Refusals.{says-not-zero}
 use Rattle.plan.specs.declared.Step.{Step}
 use Rattle.plan.specs.declared.PlanRead.{PlanRead}
-use Rattle.plan.specs.Plans.{planRead, planReadSays}
-use Rattle.draft.specs.Drafts.{stepsFor}
+use Rattle.plan.specs.Plans.{planRead, planReadSays, stepsFor}
 use Rattle.judge.specs.declared.Checked.{Checked}
 use Rattle.judge.specs.Check.{checkedSays}
 use Rattle.faults.specs.Faults.{Byte, TableIs, PlanIs, TableSays, a-table, table-fault, PlanSays, a-plan, plan-fault, FaultAt}

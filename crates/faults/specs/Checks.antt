@@ -15,7 +15,7 @@ use Rattle.table.specs.declared.refusal.Refusal.the-variants.{Stranger, Kept, L
 use Rattle.table.specs.Refusals.{accepted}
 use Rattle.table.specs.Tables.{JobTable}
 use Rattle.plan.specs.declared.Step.{Step}
-use Rattle.draft.specs.Drafts.{stepOf, stepsFor}
+use Rattle.plan.specs.Plans.{stepOf, stepsFor}
 use Rattle.judge.specs.declared.Checked.{Checked}
 use Rattle.judge.specs.declared.Checked.the-variants.{Passes, Fails}
 use Rattle.judge.specs.Check.{checkedSays}

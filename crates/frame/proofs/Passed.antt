@@ -21,9 +21,8 @@ use Rattle.table.specs.Refusals.{Outcome, accepted, refused}
 use Rattle.table.specs.Tables.{JobTable, GoodTable}
 use Rattle.table.specs.declared.refusal.Refusal.the-variants.{Left}
 use Rattle.plan.specs.declared.Step as plan
-use Rattle.plan.specs.Plans.{stepId, noStep, stepAt, readPlan}
+use Rattle.plan.specs.Plans.{stepId, noStep, stepAt, readPlan, stepOf}
 use Rattle.plan.proofs.Plans.{accepted-plan, step-at}
-use Rattle.draft.specs.Drafts.{stepOf}
 use Rattle.judge.specs.declared.Checked.the-variants.{Passes, Fails}
 use Rattle.judge.specs.Check.{jobOf, listed, lacksOne, timed, afterListed, afterPlan}
 use Rattle.judge.proofs.Jobs.{Lists, listed-tells, all-or-left}

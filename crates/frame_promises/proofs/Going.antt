@@ -18,8 +18,7 @@ use Rattle.model.proofs.Lists.{clash}
 use Rattle.table.specs.Records.{used}
 use Rattle.table.specs.Tables.{JobTable}
 use Rattle.plan.specs.declared.Step.{Step}
-use Rattle.plan.specs.Plans.{stepId, noStep}
-use Rattle.draft.specs.Drafts.{stepOf}
+use Rattle.plan.specs.Plans.{stepId, noStep, stepOf}
 use Rattle.frame.specs.Finite.{finite?}
 use Rattle.frame.specs.Step.{Reply}
 use Rattle.frame.specs.Run.{event}

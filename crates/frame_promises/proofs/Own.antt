@@ -22,8 +22,7 @@ use Rattle.table.specs.Tables.{JobTable, readTable}
 use Rattle.table.proofs.Accepted.{accepted-good}
 use Rattle.table.proofs.Refusals.{says-not-zero}
 use Rattle.plan.specs.declared.Step.{Step}
-use Rattle.plan.specs.Plans.{stepId, noStep, readPlan}
-use Rattle.draft.specs.Drafts.{stepOf, stepsFor}
+use Rattle.plan.specs.Plans.{stepId, noStep, readPlan, stepOf, stepsFor}
 use Rattle.judge.specs.declared.Checked.{Checked}
 use Rattle.judge.specs.declared.Checked.the-variants as checked
 use Rattle.judge.specs.Check.{checkedSays, afterPlan, checkPlan}

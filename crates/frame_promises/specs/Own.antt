@@ -14,7 +14,7 @@ use Rattle.model.specs.Run.{Took}
 use Rattle.table.specs.Refusals.{accepted}
 use Rattle.table.specs.Tables.{JobTable}
 use Rattle.plan.specs.declared.Step.{Step}
-use Rattle.draft.specs.Drafts.{stepsFor}
+use Rattle.plan.specs.Plans.{stepsFor}
 use Rattle.judge.specs.Check.{checkedSays, checkPlan}
 use Rattle.faults.specs.Faults.{TableIs, PlanIs}
 use Rattle.faults.specs.Checks.{PlanOf}

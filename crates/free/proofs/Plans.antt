@@ -19,28 +19,29 @@ use Rattle.model.proofs.PlanOrder.{perm-plan}
 use Rattle.model.proofs.Places.{order-places}
 use Rattle.model.proofs.Free.{answer-choice}
 use Rattle.table.specs.Limits.{mostJobs, largestTime}
-use Rattle.choice.specs.declared.Found.the-variants.{Mask, Nothing}
-use Rattle.choice.specs.Choices.{SoundJobs, flagsOf, foundOf}
+use Rattle.choice.specs.declared.BestMask.the-variants.{Mask, Nothing}
+use Rattle.choice.specs.Choices.{SoundJobs, flagsOf, bestMaskOf}
 use Rattle.draft.specs.declared.Draft.{Draft}
 use Rattle.draft.specs.declared.Drafted.{Drafted}
 use Rattle.draft.specs.Drafts.{draftOf, draftedOf}
-use Rattle.draft.proofs.Drafts.{spans-short}
 use Rattle.free.specs.Parts.{inAwayOrder, HereRoom}
 use Rattle.free.proofs.Parts.{choose-short, choose-length, away-short}
+use Rattle.model.proofs.Bounds.{spans-short}
 
 -- a plan has as many jobs as its choice
 pub plan-many : (cs : List Chosen) → (js : List Job) → Choice js cs → length (plan cs) ≡ length cs
 plan-many cs js c = length-perm (perm-plan cs (c .allowed))
 
 module _ (js : List Job) (sound : SoundJobs js) (D : ℕ) where
-  pub found-nothing : Nothing ≡ foundOf (answer D js) → _≡_ {A = Drafted} (record { found = false; draft = draftOf [] }) (draftedOf (free mostJobs D js))
+  pub found-nothing : Nothing ≡ bestMaskOf (answer D js) → _≡_ {A = Drafted} (record { found = false; draft = draftOf [] }) (draftedOf (free mostJobs D js))
   found-nothing e = step (answer D js) refl e
     where
-      step : (c : Cell) → answer D js ≡ c → Nothing ≡ foundOf c → _≡_ {A = Drafted} (record { found = false; draft = draftOf [] }) (draftedOf (free mostJobs D js))
+      step : (c : Cell) → answer D js ≡ c → Nothing ≡ bestMaskOf c
+          → _≡_ {A = Drafted} (record { found = false; draft = draftOf [] }) (draftedOf (free mostJobs D js))
       step empty q f = ap (λ (c : Cell). draftedOf (planFound mostJobs js c)) (sym q)
       step (cell a m) q f = clash (cc)
 
-  module _ (m : ℕ) (e : Mask m ≡ foundOf (answer D js)) where
+  module _ (m : ℕ) (e : Mask m ≡ bestMaskOf (answer D js)) where
     abbrev cs : List Chosen
     cs = choose js (flagsOf js m)
 
@@ -50,7 +51,7 @@ module _ (js : List Job) (sound : SoundJobs js) (D : ℕ) where
     with-total : (a : ℕ) × (answer D js ≡ cell a m)
     with-total = step (answer D js) refl e
       where
-        step : (c : Cell) → answer D js ≡ c → Mask m ≡ foundOf c → (a : ℕ) × (answer D js ≡ cell a m)
+        step : (c : Cell) → answer D js ≡ c → Mask m ≡ bestMaskOf c → (a : ℕ) × (answer D js ≡ cell a m)
         step empty q f = clash (cc)
         step (cell a n) q f = let s : n ≡ m = cc in (a, q ∙ ap (cell a) s)
 
@@ -65,12 +66,23 @@ module _ (js : List Job) (sound : SoundJobs js) (D : ℕ) where
         record {
           before = sent;
           held = h;
-          few = omega (arith, sound .few, choose-length js (flagsOf js m), plan-many cs js (best .choice), ap length in-parts, length-append sent (filter here cs));
+          few =
+              omega (
+                arith,
+                sound .few,
+                choose-length js (flagsOf js m),
+                plan-many cs js (best .choice),
+                ap length in-parts,
+                length-append sent (filter here cs),
+              );
           short = choose-short js (flagsOf js m) (sound .times);
-          early = spans-short sent (all-filter (λ (c : Chosen). span c ≤ largestTime) isAway (inAwayOrder js (flagsOf js m)) (away-short js sound (flagsOf js m)));
+          early =
+              spans-short largestTime sent (all-filter (λ (c : Chosen). span c ≤ largestTime) isAway (inAwayOrder js (flagsOf js m))
+              (away-short js sound (flagsOf js m)));
         }
 
-    pub found-plan : (r : Draft) → r ≡ draftOf (sent ++ filter here cs) → _≡_ {A = Drafted} (record { found = true; draft = r }) (draftedOf (free mostJobs D js))
+    pub found-plan : (r : Draft) → r ≡ draftOf (sent ++ filter here cs)
+        → _≡_ {A = Drafted} (record { found = true; draft = r }) (draftedOf (free mostJobs D js))
     found-plan r h =
         (λ k. record { found = true; draft = h k })
         ∙ (ap (λ (xs : List Chosen). draftedOf (some xs)) (sym in-parts) ∙ ap (λ (c : Cell). draftedOf (planFound mostJobs js c)) (sym (with-total .1)))

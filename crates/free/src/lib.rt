@@ -1,5 +1,5 @@
 // The free-order planner on a table that is read: the best choice's away jobs in away order, then its here jobs in table order.
-use choice::Found;
+use choice::BestMask;
 use choice::Prepared;
 use draft::Draft;
 use draft::Drafted;
@@ -44,7 +44,8 @@ fn here_part(
     flags: [bool; Table::MOST_JOBS],
 ) -> Draft
     requires { ⌜ (count ≤ mostJobs) × HereRoom front (choose (take count jobs) flags) ⌝ }
-    ensures { λ r. ⌜ ((cs : List Chosen) → HereRoom front (choose (take count jobs) flags) → front ≡ draftOf cs → r ≡ draftOf (cs ++ filter here (choose (take count jobs) flags))) ⌝ }
+    ensures { λ r. ⌜ ((cs : List Chosen) → HereRoom front (choose (take count jobs) flags) → front ≡ draftOf cs
+        → r ≡ draftOf (cs ++ filter here (choose (take count jobs) flags))) ⌝ }
 {
     let mut draft = front;
     for i in 0..count {
@@ -53,13 +54,14 @@ fn here_part(
     draft
 }
 
+// The plan of the best choice, if some timetable meets the deadline.
 pub fn free_plan(t: Table) -> Drafted
     requires { ⌜ Sound t ⌝ }
     ensures { λ r. ⌜ r ≡ draftedOf (free mostJobs (t .deadline) (jobTable t .jobs)) ⌝ }
 {
     let p = choice::prepare(t);
     let found = choice::best_choice(t.deadline, p);
-    let Found::Mask(mask) = found else {
+    let BestMask::Mask(mask) = found else {
         let nothing = Draft::empty();
         return Drafted {
             found: false,

@@ -18,12 +18,14 @@ use Rattle.model.specs.Positions.{noJob}
 use Rattle.model.proofs.Lists.{clash}
 use Rattle.model.proofs.Permutations.{total-append}
 use Rattle.model.proofs.GivenOrder.{given-on, decide-fits}
+use Rattle.table.specs.Limits.{mostJobs}
 use Rattle.draft.specs.declared.Draft.{Draft}
 use Rattle.draft.specs.declared.Drafted.{Drafted}
 use Rattle.draft.specs.Drafts.{draftOf, withChosen, draftedOf}
-use Rattle.draft.proofs.Drafts.{draft-more, steps-length}
+use Rattle.draft.proofs.Drafts.{draft-more}
 use Rattle.given.specs.declared.Decision.the-variants.{Run, Neither}
 use Rattle.given.specs.Given.{decisionOf}
+use Rattle.plan.proofs.Steps.{steps-length}
 
 -- what is found later stands behind what is placed
 abbrev pub behind : List Chosen → Option (List Chosen) → Option (List Chosen)
@@ -50,10 +52,12 @@ module _ (D : ℕ) (js : List Job) where
       front none = refl
       front (some ds) = refl
 
-  pub going-end : (draft : Draft) (i : ℕ) → length js ≤ i → Going D js draft i → _≡_ {A = Drafted} (record { found = true; draft = draft }) (draftedOf (given D 0 js))
+  pub going-end : (draft : Draft) (i : ℕ) → length js ≤ i → Going D js draft i
+      → _≡_ {A = Drafted} (record { found = true; draft = draft }) (draftedOf (given D 0 js))
   going-end draft i h g =
       let none-left : drop i js ≡ [] = drop-of-length-le js {i = i} h in
-      let all : some (g .placed) ≡ given D 0 js = ap some (sym (append-nil (g .placed))) ∙ ap (λ (l : List Job). behind (g .placed) (given D (busy (g .placed)) l)) (sym none-left) ∙ g .rest in
+      let all : some (g .placed) ≡ given D 0 js = ap some (sym (append-nil (g .placed)))
+      ∙ ap (λ (l : List Job). behind (g .placed) (given D (busy (g .placed)) l)) (sym none-left) ∙ g .rest in
       (λ k. record { found = true; draft = g .held k }) ∙ ap draftedOf all
 
   -- the draft has i steps, and has not passed D
@@ -68,14 +72,20 @@ module _ (D : ℕ) (js : List Job) where
     now : draft .laid .busy ≡ busy (g .placed)
     now = ap (λ (d : Draft). d .laid .busy) (g .held)
 
-    pub going-none : Neither ≡ decisionOf (decide D (draft .laid .busy) job) → _≡_ {A = Drafted} (record { found = false; draft = draftOf [] }) (draftedOf (given D 0 js))
-    going-none e = ap draftedOf (sym (sym (g .rest) ∙ ap (behind (g .placed)) (stop (decide D (busy (g .placed)) job) refl (e ∙ ap (λ (t : ℕ). decisionOf (decide D t job)) now))))
+    pub going-none : Neither ≡ decisionOf (decide D (draft .laid .busy) job)
+        → _≡_ {A = Drafted} (record { found = false; draft = draftOf [] }) (draftedOf (given D 0 js))
+    going-none e =
+        ap draftedOf (sym (sym (g .rest)
+        ∙ ap (behind (g .placed)) (stop (decide D (busy (g .placed)) job) refl (e ∙ ap (λ (t : ℕ). decisionOf (decide D t job)) now))))
       where
         stop : (o : Option Chosen) → decide D (busy (g .placed)) job ≡ o → Neither ≡ decisionOf o → given D (busy (g .placed)) (drop i js) ≡ none
-        stop none q h = rw onward (ap (λ (o : Option Chosen). elim o as (λ (x : Option Chosen). Option (List Chosen)) [ none ↦ none | some x ↦ put x (given D (busy (g .placed) + span x) (drop (i + 1) js)) ]) q)
+        stop none q h =
+            rw onward (ap (λ (o : Option Chosen). elim o as (λ (x : Option Chosen). Option (List Chosen))
+            [ none ↦ none | some x ↦ put x (given D (busy (g .placed) + span x) (drop (i + 1) js)) ]) q)
         stop (some c) q h = clash (cc)
 
-    pub going-more : (away : Bool) → Run away ≡ decisionOf (decide D (draft .laid .busy) job) → length js ≤ 32 → Going D js (withChosen draft (chosen job away)) (i + 1)
+    pub going-more : (away : Bool) → Run away ≡ decisionOf (decide D (draft .laid .busy) job) → length js ≤ mostJobs
+        → Going D js (withChosen draft (chosen job away)) (i + 1)
     going-more away e few = step (decide D (busy (g .placed)) job) refl (e ∙ ap (λ (t : ℕ). decisionOf (decide D t job)) now)
       where
         new : Chosen

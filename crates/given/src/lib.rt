@@ -11,6 +11,7 @@ ghost use mathlib.Core.Path.{_≡_};
 ghost use Prim.Native.Nat.{_≤_};
 ghost use lib.ListN.{take};
 ghost use Rattle.model.specs.GivenOrder.{goes, decide, given};
+ghost use Rattle.model.specs.Laying.{mostBusy};
 ghost use Rattle.table.specs.Limits.{mostJobs};
 ghost use Rattle.draft.specs.Drafts.{draftedOf};
 ghost use Rattle.given.specs.Given.{decisionOf};
@@ -23,7 +24,7 @@ pub enum Decision {
 
 // At time t a job is sent away if it is an either job, S < C and t + S + I <= d.
 fn is_sent(d: u32, t: u32, job: Job) -> bool
-    requires { ⌜ t ≤ 4000000000 ⌝ }
+    requires { ⌜ t ≤ mostBusy ⌝ }
     ensures { λ r. ⌜ r ≡ goes d t job ⌝ }
 {
     let local = job.local;
@@ -43,7 +44,7 @@ fn is_sent(d: u32, t: u32, job: Job) -> bool
 
 // Else it is kept here if t + C <= d.
 fn decided(d: u32, t: u32, job: Job) -> Decision
-    requires { ⌜ t ≤ 4000000000 ⌝ }
+    requires { ⌜ t ≤ mostBusy ⌝ }
     ensures { λ r. ⌜ r ≡ decisionOf (decide d t job) ⌝ }
 {
     if is_sent(d, t, job) {

@@ -24,8 +24,7 @@ use Rattle.table.specs.Records.{used}
 use Rattle.table.specs.Tables.{jobId}
 use Rattle.table.proofs.Listed.{Distinct, used-member}
 use Rattle.plan.specs.declared.Step.{Step}
-use Rattle.plan.specs.Plans.{stepId}
-use Rattle.draft.specs.Drafts.{stepOf, stepsFor}
+use Rattle.plan.specs.Plans.{stepId, stepOf, stepsFor}
 use Rattle.judge.specs.Check.{jobOf, chosenBy, before, listed, lacksOne}
 
 -- Members of a list.

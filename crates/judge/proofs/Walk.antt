@@ -26,8 +26,9 @@ use Rattle.table.specs.Tables.{JobTable, TimesOk, GoodTable}
 use Rattle.plan.specs.declared.Step.{Step}
 use Rattle.plan.specs.declared.PlanRead.the-variants.{PlanIs}
 use Rattle.plan.specs.Plans.{stepId, readPlan, planRead, noStep, stepAt}
+use Rattle.model.proofs.Bounds.{spans-short}
+use Rattle.plan.proofs.Steps.{steps-length}
 use Rattle.plan.proofs.Plans.{accepted-plan, step-at}
-use Rattle.draft.proofs.Drafts.{steps-length, spans-short}
 use Rattle.judge.specs.declared.Checked.the-variants.{Passes, Fails}
 use Rattle.judge.specs.Check.{jobOf, chosenBy, before, listed, lacksOne, timed, afterPlan}
 use Rattle.judge.proofs.Jobs.{member-all, job-tells, before-tells, listed-tells, none-left, all-or-left}
@@ -92,7 +93,7 @@ module _ (t : JobTable) (plan : List ℕ) (steps : ℕ) where
         let l = listed-tells (t .jobs) (take k (w .xs)) (w .cs) (w .so) in
         let short = all-map (λ c e. span-short c (member-all TimesOk (good .times) (job-tells (t .jobs) _ _ e .0))) (w .cs) (l .named) in
         let few = accepted-plan plan (w .xs) (w .reads) .0 in
-        rw (w .held) (omega (arith, spans-short (w .cs) short, steps-length (w .cs), ap length (l .steps), length-take k (w .xs)))
+        rw (w .held) (omega (arith, spans-short largestTime (w .cs) short, steps-length (w .cs), ap length (l .steps), length-take k (w .xs)))
 
     module _ (more : k < steps) where
       -- the k-th step is the next one

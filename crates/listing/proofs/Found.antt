@@ -14,8 +14,8 @@ use Rattle.model.specs.FreeOrder.{Choice}
 use Rattle.model.specs.Positions.{noJob}
 use Rattle.model.proofs.Lists.{all-map, all-zip, all-of-map}
 use Rattle.model.proofs.Permutations.{all-perm}
-use Rattle.draft.specs.Drafts.{stepsFor}
 use Rattle.listing.specs.Found.{jobWith, chosenFor}
+use Rattle.plan.specs.Plans.{stepsFor}
 
 module _ (js : List Job) (i id : ℕ) where
   pub with-found : i < length js → getD js i noJob .id ≡ id → jobWith (drop i js) id ≡ getD js i noJob

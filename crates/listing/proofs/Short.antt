@@ -123,7 +123,7 @@ module _ (s : List ℕ) (bytes : (i : ℕ) → getD s i 0 < 256) where
       let c = b .1 .choice in
       let ids : All (λ (x : Chosen). x .job .id < 256) cs =
       all-of-map (λ (x : Chosen). x .job) (λ (j : Job). j .id < 256) cs (subst (All _) (sym (c .each)) (accepted-ids s t bytes e)) in
-      plan-short t xs (good .high) (good .few) (free-many (t .deadline) (t .jobs) xs b)
+      plan-short t xs (good .high) (good .few) (free-many t xs b)
       (subst (All _) (sym (b .2)) (all-perm (λ (x : Chosen). x .job .id < 256) (Permᴰ·symm (perm-plan cs (c .allowed))) ids))
       (subst (Fits (t .deadline) 0) (sym (b .2)) (b .1 .workable))
 

@@ -22,10 +22,10 @@ use Rattle.table.specs.Limits.{mostJobs}
 use Rattle.table.specs.Refusals.{refusalSays, Outcome, accepted, refused}
 use Rattle.table.specs.Tables.{JobTable, jobTable, tableRead, readTable}
 use Rattle.table.proofs.Accepted.{held-table}
-use Rattle.plan.specs.Plans.{stepsOf}
+use Rattle.plan.specs.Plans.{stepsOf, stepsFor}
 use Rattle.plan.proofs.Steps.{steps-of-plan}
 use Rattle.draft.specs.declared.Drafted.{Drafted}
-use Rattle.draft.specs.Drafts.{stepsFor, draftOf, draftedOf}
+use Rattle.draft.specs.Drafts.{draftOf, draftedOf}
 use Rattle.table.proofs.Reading.{WholeRead}
 use Rattle.text.specs.Writing.{Wrote}
 use Rattle.text.proofs.Writing.{written-front}

@@ -21,8 +21,7 @@ use Rattle.table.specs.Limits.{mostJobs, largestTime, longestPlan}
 use Rattle.table.specs.Refusals.{accepted}
 use Rattle.table.specs.Tables.{JobTable, readTable}
 use Rattle.table.proofs.Accepted.{accepted-good}
-use Rattle.plan.specs.Plans.{planBytes}
-use Rattle.draft.specs.Drafts.{stepsFor}
+use Rattle.plan.specs.Plans.{planBytes, stepsFor}
 use Rattle.planner.specs.declared.Planned.{Planned}
 use Rattle.planner.specs.Answers as A
 use Rattle.planner.specs.Answers.{BestPlan, FreeAnswer, GivenAnswer, LeastAnswer}

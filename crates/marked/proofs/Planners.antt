@@ -5,20 +5,18 @@ use mathlib.Core.List.{List, [], _∷_, _++_}
 use Prim.Native.Nat.{ℕ, _≤_}
 use native.Mathlib.Omega.{arith}
 use lib.ListN.{length, getD, drop, replicate}
-use Rattle.model.specs.declared.Job.{Job}
-use Rattle.model.specs.Timetable.{Chosen, Met}
+use Rattle.model.specs.Timetable.{Chosen, Timetable}
 use Rattle.model.specs.FreeOrder.{busy, lastFrom}
-use Rattle.model.specs.GivenOrder.{MetInOrder, BestInOrder}
+use Rattle.model.specs.GivenOrder.{InOrder, BestInOrder}
 use Rattle.table.specs.declared.refusal.Refusal.the-variants.{None, Room}
 use Rattle.table.specs.Limits.{longestPlan}
 use Rattle.table.specs.Refusals.{accepted}
 use Rattle.table.specs.Tables.{JobTable, readTable}
 use Rattle.table.proofs.Refusals.{says-not-zero}
-use Rattle.plan.specs.Plans.{planBytes}
-use Rattle.draft.specs.Drafts.{stepsFor}
+use Rattle.plan.specs.Plans.{planBytes, stepsFor}
 use Rattle.planner.specs.declared.Least.{Least}
 use Rattle.planner.specs.Answers as A
-use Rattle.planner.specs.Answers.{PlanAnswer, BestPlan, FreeAnswer, GivenAnswer, LeastAnswer}
+use Rattle.planner.specs.Answers.{PlanAnswer, Possible, BestPlan, FreePlan, GivenPlan}
 use Rattle.marked.specs.Marked.{E, planE, marked, AllHold}
 use Rattle.accord.specs.Allows.{FreeAllows, GivenAllows, LeastAllows}
 use Rattle.marked.specs.Versions.{Planner, Plans, NoneToAll, OneFixedPlan, NothingWritten, LastIsBusy, NotEmpty, TrueFigures, NeverMet, OneDeadline}
@@ -68,10 +66,12 @@ module _ (p : Planner) (shown : Shown p) where
     not-last-is-busy = last-is-busy;
   }
 
-module _ (CanMeet : ℕ → List Job → Type 0) (IsPlan : ℕ → List Job → List Chosen → Type 0) (p : Planner) (s before : List ℕ) (n b l : ℕ) (plans : Plans p s before n b l) where
+module _
+    (CanMeet : JobTable → Type 0) (IsPlan : JobTable → List Chosen → Type 0) (p : Planner) (s before : List ℕ) (n b l : ℕ)
+    (plans : Plans p s before n b l) where
   -- what is said of a plan are its own figures
-  pub figures-of : PlanAnswer CanMeet IsPlan s before (p .answer s before) (p .area s before)
-      → (t : JobTable) × (xs : List Chosen) × (readTable s ≡ accepted t) × IsPlan (t .deadline) (t .jobs) xs × TrueFigures xs n b l before (p .area s before)
+  pub figures-of : PlanAnswer CanMeet IsPlan (readTable s) before (p .answer s before) (p .area s before)
+      → (t : JobTable) × (xs : List Chosen) × (readTable s ≡ accepted t) × IsPlan t xs × TrueFigures xs n b l before (p .area s before)
   figures-of (A.no-room w h) = absurd (says-not-zero Room _ (sym (h .says) ∙ plans))
   figures-of (A.bad-table w f e h) = absurd (says-not-zero f _ (sym (h .says) ∙ plans))
   figures-of (A.no-plan w t e m h) = absurd (says-not-zero None _ (sym (h .says) ∙ plans))
@@ -104,7 +104,7 @@ module _ (p : Planner) (meets : (s before : List ℕ) → FreeAllows s before (p
 
   pub free-figures : (s before : List ℕ) (n b l : ℕ) → Plans p s before n b l
       → (t : JobTable) × (xs : List Chosen) × (readTable s ≡ accepted t) × BestPlan (t .deadline) (t .jobs) xs × TrueFigures xs n b l before (p .area s before)
-  free-figures s before n b l plans = figures-of Met BestPlan p s before n b l plans (meets s before)
+  free-figures s before n b l plans = figures-of (Possible Timetable) FreePlan p s before n b l plans (meets s before)
 
 -- The given-order planner.
 module _ (p : Planner) (meets : (s before : List ℕ) → GivenAllows s before (p .answer s before) (p .area s before)) where
@@ -120,7 +120,7 @@ module _ (p : Planner) (meets : (s before : List ℕ) → GivenAllows s before (
 
   pub given-figures : (s before : List ℕ) (n b l : ℕ) → Plans p s before n b l
       → (t : JobTable) × (xs : List Chosen) × (readTable s ≡ accepted t) × BestInOrder (t .deadline) (t .jobs) xs × TrueFigures xs n b l before (p .area s before)
-  given-figures s before n b l plans = figures-of MetInOrder BestInOrder p s before n b l plans (meets s before)
+  given-figures s before n b l plans = figures-of (Possible InOrder) GivenPlan p s before n b l plans (meets s before)
 
 -- The least deadline.
 module _ (least : List ℕ → Least) (meets : (s : List ℕ) → LeastAllows s (least s)) where

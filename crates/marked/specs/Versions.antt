@@ -12,8 +12,7 @@ use Rattle.table.specs.declared.refusal.Refusal.the-variants.{None}
 use Rattle.table.specs.Limits.{longestPlan}
 use Rattle.table.specs.Refusals.{refusalSays, accepted}
 use Rattle.table.specs.Tables.{JobTable, readTable}
-use Rattle.plan.specs.Plans.{planBytes}
-use Rattle.draft.specs.Drafts.{stepsFor}
+use Rattle.plan.specs.Plans.{planBytes, stepsFor}
 use Rattle.planner.specs.declared.Planned.{Planned}
 use Rattle.planner.specs.declared.Least.{Least}
 use Rattle.planner.specs.Answers.{plannedSays, leastSays}

@@ -10,7 +10,7 @@ use Rattle.model.specs.declared.Job.{Job}
 use Rattle.model.specs.Lists.{total}
 use Rattle.model.specs.Timetable.{Chosen, Placed, Timetable, Meets, Met}
 use Rattle.model.specs.FreeOrder.{Choice, awayOrder, Workable, busy, spans, fromLast, Keeps, Ahead, Best}
-use Rattle.model.specs.Recurrence.{answer, Cell, empty, cell, base, orderOf, mask, maskOf}
+use Rattle.model.specs.Recurrence.{answer, Cell, empty, cell, base, jobsInAwayOrder, mask, maskOf}
 use Rattle.model.proofs.Lists.{clash}
 use Rattle.model.proofs.PlanOrder.{jobOf, jobs}
 use Rattle.model.proofs.Timetables.{what, spans-what, timetable-choice, timetable-iff-workable}
@@ -29,12 +29,12 @@ pub record Work (D : ℕ) (js : List Job) (a m : ℕ) : Type 0 where
   pub bits : maskOf of ≡ m
 
 module _ (D : ℕ) (js : List Job) where
-  last-of : (cs : List Chosen) → Choice js cs → jobs (reverse (awayOrder cs)) ≡ reverse (orderOf js)
-  last-of cs c = last-jobs cs ∙ ap (λ (l : List Job). reverse (orderOf l)) (c .each)
+  last-of : (cs : List Chosen) → Choice js cs → jobs (reverse (awayOrder cs)) ≡ reverse (jobsInAwayOrder js)
+  last-of cs c = last-jobs cs ∙ ap (λ (l : List Job). reverse (jobsInAwayOrder l)) (c .each)
 
-  to-work : (a m : ℕ) → Total D (reverse (orderOf js)) (base js) a m × (a ≤ D) → Work D js a m
+  to-work : (a m : ℕ) → Total D (reverse (jobsInAwayOrder js)) (base js) a m × (a ≤ D) → Work D js a m
   to-work a m (t, h) =
-      let r = restore js (reverse (t .of)) (map-reverse jobOf (t .of) ∙ ap reverse (t .jobs) ∙ reverse-reverse (orderOf js)) in
+      let r = restore js (reverse (t .of)) (map-reverse jobOf (t .of) ∙ ap reverse (t .jobs) ∙ reverse-reverse (jobsInAwayOrder js)) in
       build (r .0) (r .1) (ap reverse (r .2) ∙ reverse-reverse (t .of))
     where
       build : (cs : List Chosen) → Choice js cs → reverse (awayOrder cs) ≡ t .of → Work D js a m
@@ -50,7 +50,7 @@ module _ (D : ℕ) (js : List Job) where
             bits = ap mask e ∙ t .bits;
           }
 
-  from-work : (a m : ℕ) → Work D js a m → Total D (reverse (orderOf js)) (base js) a m × (a ≤ D)
+  from-work : (a m : ℕ) → Work D js a m → Total D (reverse (jobsInAwayOrder js)) (base js) a m × (a ≤ D)
   from-work a m w =
       let cs = w .of in
       let f = workable-feasible D cs (w .choice .allowed) (w .workable) in (
@@ -58,8 +58,9 @@ module _ (D : ℕ) (js : List Job) where
           of = reverse (awayOrder cs);
           jobs = last-of cs (w .choice);
           feasible = f .0;
-          sum = ap (λ (l : List Job). total setupPart (reverse (awayOrder cs)) + total herePart (reverse (awayOrder cs)) + base l) (sym (w .choice .each)) ∙
-              busy-sum cs (w .choice .allowed) ∙ w .sum;
+          sum =
+              ap (λ (l : List Job). total setupPart (reverse (awayOrder cs)) + total herePart (reverse (awayOrder cs)) + base l)
+              (sym (w .choice .each)) ∙ busy-sum cs (w .choice .allowed) ∙ w .sum;
           bits = w .bits;
         },
         omega (arith, f .1, w .sum),
@@ -68,12 +69,14 @@ module _ (D : ℕ) (js : List Job) where
   -- the answer is the least (busy total, mask) of the workable choices, or there is none
   pub answer-least : IsLeast (Work D js) (answer D js)
   answer-least =
-      least-iff (λ (a m : ℕ). Total D (reverse (orderOf js)) (base js) a m × (a ≤ D)) (Work D js) to-work from-work (answer D js)
-      (total-least D (reverse (orderOf js)) (base js))
+      least-iff (λ (a m : ℕ). Total D (reverse (jobsInAwayOrder js)) (base js) a m × (a ≤ D)) (Work D js) to-work from-work (answer D js)
+      (total-least D (reverse (jobsInAwayOrder js)) (base js))
 
-  as-long : (cs ds : List Chosen) → Choice js cs → Choice js ds → length (reverse (awayOrder cs)) ≡ length (reverse (awayOrder ds))
+  -- any two choices of a table have as many either jobs
+  pub as-long : (cs ds : List Chosen) → Choice js cs → Choice js ds → length (reverse (awayOrder cs)) ≡ length (reverse (awayOrder ds))
   as-long cs ds c d =
-      job-count (reverse (awayOrder cs)) (reverse (orderOf js)) (last-of cs c) ∙ sym (job-count (reverse (awayOrder ds)) (reverse (orderOf js)) (last-of ds d))
+      job-count (reverse (awayOrder cs)) (reverse (jobsInAwayOrder js)) (last-of cs c)
+      ∙ sym (job-count (reverse (awayOrder ds)) (reverse (jobsInAwayOrder js)) (last-of ds d))
 
   -- the least of the workable choices is the best
   pub least-best : (a m : ℕ) → IsLeast (Work D js) (cell a m) → (cs : List Chosen) × Best D js cs × (busy cs ≡ a) × (maskOf cs ≡ m)
@@ -91,8 +94,11 @@ module _ (D : ℕ) (js : List Job) where
       turn : (ds : List Chosen) → Choice js ds → LexLe a m (busy ds) (maskOf ds) → Ahead (w .of) ds
       turn ds c (inl h) = inl (omega (arith, w .sum))
       turn ds c (inr h) =
-          let n = as-long (w .of) ds (w .choice) c in
-          inr (w .sum ∙ h .0, mask-keeps (reverse (awayOrder (w .of))) (reverse (awayOrder ds)) n (omega (arith, w .bits, h .1)))
+          inr (
+            w .sum ∙ h .0,
+            mask-keeps (reverse (awayOrder (w .of))) (reverse (awayOrder ds)) (as-long (w .of) ds (w .choice) c)
+                (omega (arith, w .bits, h .1)),
+          )
 
   -- the answer's cell is that of the best choice
   pub answer-best : (a m : ℕ) → answer D js ≡ cell a m → (cs : List Chosen) × Best D js cs × (busy cs ≡ a) × (maskOf cs ≡ m)
@@ -127,8 +133,8 @@ module _ (D : ℕ) (js : List Job) where
     where
       long : length (fromLast cs) ≡ length (fromLast ds)
       long =
-          length-map (reverse (awayOrder cs)) (λ (c : Chosen). c .away) ∙ as-long cs ds (b .choice) (d .choice) ∙
-          sym (length-map (reverse (awayOrder ds)) (λ (c : Chosen). c .away))
+          length-map (reverse (awayOrder cs)) (λ (c : Chosen). c .away) ∙ as-long cs ds (b .choice) (d .choice)
+          ∙ sym (length-map (reverse (awayOrder ds)) (λ (c : Chosen). c .away))
 
       same : Keeps (fromLast cs) (fromLast ds) → Keeps (fromLast ds) (fromLast cs) → cs ≡ ds
       same k l =

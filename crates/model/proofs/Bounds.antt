@@ -1,18 +1,20 @@
--- What a planner's machine numbers need: bounds of the cells, and a step that compares totals alone. And a plan fits by D exactly when its last finish is at most D.
+-- What a planner's machine numbers need: bounds of the cells and of a sum of spans, and a step that compares totals alone.
+-- And a plan fits by D exactly when its last finish is at most D.
 -- Assumes nothing.
 use mathlib.Core.Path.{_≡_, refl, ap, subst}
 use mathlib.Core.Logic.{_↔_}
 use mathlib.Core.Bool.{Bool, true, false, cond, _&&_, _||_}
 use mathlib.Core.List.{List, [], _∷_, map}
-use Prim.Native.Nat.{ℕ, _+_, _^_, _≤_, _<_}
+use Prim.Native.Nat.{ℕ, _+_, _*_, _^_, _≤_, _<_}
+use native.Mathlib.Nat.{mul-suc}
 use native.Mathlib.Omega.{arith}
 use borrow.Author.Tests.{leb-false, ltb-true, ltb-false, eqb-true, eqb-false}
 use lib.Dec.{leb, ltb, eqb}
 use lib.ListN.{length}
 use Rattle.model.specs.declared.Job.{Job}
-use Rattle.model.specs.Lists.{total}
+use Rattle.model.specs.Lists.{All, total}
 use Rattle.model.specs.Timetable.{setupTime, returnTime, Chosen, span}
-use Rattle.model.specs.FreeOrder.{Fits, lastFrom}
+use Rattle.model.specs.FreeOrder.{Fits, busy, lastFrom}
 use Rattle.model.specs.Recurrence.{row, Cell, empty, cell, pick, shift, next}
 use Rattle.model.proofs.Least.{IsLeast}
 use Rattle.model.proofs.Rows.{herePart, Reach, job-count, row-least}
@@ -60,7 +62,8 @@ pub next-lower : (D : ℕ) (o : Job) (j t : ℕ) (kept sent : Cell) → ((h m : 
 next-lower D o j t empty sent f = refl
 next-lower D o j t (cell a m) sent f = step (leb (setupTime o) t && leb (t + returnTime o) D) sent
   where
-    step : (b : Bool) (d : Cell) → pick (shift (o .local) 0 (cell a m)) (cond b (shift 0 (2 ^ j) d) empty) ≡ lower (shift (o .local) 0 (cell a m)) (cond b (shift 0 (2 ^ j) d) empty)
+    step : (b : Bool) (d : Cell) → pick (shift (o .local) 0 (cell a m)) (cond b (shift 0 (2 ^ j) d) empty)
+        ≡ lower (shift (o .local) 0 (cell a m)) (cond b (shift 0 (2 ^ j) d) empty)
     step true empty = refl
     step true (cell b n) = pick-lower (a + o .local) (m + 0) (b + 0) (n + 2 ^ j) (omega (arith, f a m refl))
     step false d = refl
@@ -71,3 +74,16 @@ fits-last D t [] = ((λ f. omega arith), (λ h. tt))
 fits-last D t (c ∷ cs) =
     let r = fits-last D (t + span c) cs in
     ((λ f. omega (arith, f .0, r .0 (f .1))), (λ h. (omega arith, r .1 (omega arith))))
+
+-- a span is no longer than the times that it may take
+pub span-short : (N : ℕ) (c : Chosen) → c .job .local ≤ N → setupTime (c .job) ≤ N → span c ≤ N
+span-short N c l s = step (c .away)
+  where
+    step : (w : Bool) → cond w (setupTime (c .job)) (c .job .local) ≤ N
+    step true = s
+    step false = l
+
+-- jobs whose spans are at most N are busy for at most N each
+pub spans-short : (N : ℕ) (cs : List Chosen) → All (λ (c : Chosen). span c ≤ N) cs → busy cs ≤ N * length cs
+spans-short N [] a = omega arith
+spans-short N (c ∷ cs) a = omega (arith, a .0, spans-short N cs (a .1), mul-suc N (length cs))

@@ -10,14 +10,14 @@ use Rattle.model.specs.declared.Job.{Job}
 use Rattle.model.specs.Lists.{All, filter, total, insert, falling}
 use Rattle.model.specs.Timetable.{here, either, isEither, setupTime, returnTime, Chosen, Allowed, span}
 use Rattle.model.specs.FreeOrder.{Choice, back, awayOrder, busy}
-use Rattle.model.specs.Recurrence.{base, orderOf}
+use Rattle.model.specs.Recurrence.{base, jobsInAwayOrder}
 use Rattle.model.proofs.Lists.{clash}
 use Rattle.model.proofs.Permutations.{total-perm, perm-falling}
 use Rattle.model.proofs.Sorts.{map-filter, map-falling, uninsert, insert-inj}
 use Rattle.model.proofs.PlanOrder.{jobOf, jobs}
 use Rattle.model.proofs.Rows.{setupPart, herePart}
 
-pub order-jobs : (cs : List Chosen) → jobs (awayOrder cs) ≡ orderOf (jobs cs)
+pub order-jobs : (cs : List Chosen) → jobs (awayOrder cs) ≡ jobsInAwayOrder (jobs cs)
 order-jobs cs = map-falling jobOf returnTime (filter either cs) ∙ ap (falling returnTime) (map-filter jobOf isEither cs)
 
 module _ {A B : Type 0} (g : A → B) where
@@ -28,11 +28,11 @@ module _ {A B : Type 0} (g : A → B) where
   pub map-reverse : (xs : List A) → map g (reverse xs) ≡ reverse (map g xs)
   map-reverse xs = map-reverseAux xs []
 
-pub last-jobs : (cs : List Chosen) → jobs (reverse (awayOrder cs)) ≡ reverse (orderOf (jobs cs))
+pub last-jobs : (cs : List Chosen) → jobs (reverse (awayOrder cs)) ≡ reverse (jobsInAwayOrder (jobs cs))
 last-jobs cs = map-reverse jobOf (awayOrder cs) ∙ ap reverse (order-jobs cs)
 
 -- a choice of the jobs in away order is that of one choice of the table
-pub restore : (js : List Job) (zs : List Chosen) → jobs zs ≡ orderOf js → (cs : List Chosen) × Choice js cs × (awayOrder cs ≡ zs)
+pub restore : (js : List Job) (zs : List Chosen) → jobs zs ≡ jobsInAwayOrder js → (cs : List Chosen) × Choice js cs × (awayOrder cs ≡ zs)
 restore [] [] e = ([], record { each = refl; allowed = tt }, refl)
 restore [] (z ∷ zs) e = clash (cc)
 restore (j ∷ js) zs e = step (isEither j) refl zs e (λ ys f. restore js ys f)
@@ -41,7 +41,7 @@ restore (j ∷ js) zs e = step (isEither j) refl zs e (λ ys f. restore js ys f)
     ordered t c cs h = ap (λ (u : Bool). falling back (cond u (c ∷ filter either cs) (filter either cs))) h
 
     step : (t : Bool) → isEither j ≡ t → (zs : List Chosen) → jobs zs ≡ falling returnTime (cond t (j ∷ filter isEither js) (filter isEither js))
-        → ((ys : List Chosen) → jobs ys ≡ orderOf js → (cs : List Chosen) × Choice js cs × (awayOrder cs ≡ ys))
+        → ((ys : List Chosen) → jobs ys ≡ jobsInAwayOrder js → (cs : List Chosen) × Choice js cs × (awayOrder cs ≡ ys))
         → (cs : List Chosen) × Choice (j ∷ js) cs × (awayOrder cs ≡ zs)
     step false h zs e ih =
         let r = ih zs e in
@@ -51,7 +51,7 @@ restore (j ∷ js) zs e = step (isEither j) refl zs e (λ ys f. restore js ys f)
           ordered false c (r .0) h ∙ r .2,
         )
     step true h zs e ih =
-        let u = uninsert jobOf returnTime j (orderOf js) zs e in
+        let u = uninsert jobOf returnTime j (jobsInAwayOrder js) zs e in
         let z : Chosen = u .0 in
         let p : z .job ≡ j = u .2 in
         let r = ih (u .1) (u .3) in
@@ -87,7 +87,7 @@ order-inj (c ∷ cs) (d ∷ ds) p a b e =
         → falling back (cond t (c ∷ filter either cs) (filter either cs)) ≡ falling back (cond u (d ∷ filter either ds) (filter either ds))
         → (awayOrder cs ≡ awayOrder ds → cs ≡ ds) → c ∷ cs ≡ d ∷ ds
     step true true q h k f ih =
-        let r = insert-inj jobOf returnTime c d (awayOrder cs) (awayOrder ds) same (order-jobs cs ∙ ap orderOf rest ∙ sym (order-jobs ds)) f in
+        let r = insert-inj jobOf returnTime c d (awayOrder cs) (awayOrder ds) same (order-jobs cs ∙ ap jobsInAwayOrder rest ∙ sym (order-jobs ds)) f in
         let i : cs ≡ ds = ih (r .1) in
         let j : c ≡ d = r .0 in
         cc
@@ -117,11 +117,13 @@ busy-parts [] a = refl
 busy-parts (c ∷ cs) a = step (either c) (a .0) (busy-parts cs (a .1))
   where
     step : (t : Bool) → T (t || here c) → total setupPart (filter either cs) + total herePart (filter either cs) + base (jobs cs) ≡ busy cs
-        → total setupPart (cond t (c ∷ filter either cs) (filter either cs)) + total herePart (cond t (c ∷ filter either cs) (filter either cs)) + (cond t 0 (c .job .local) + base (jobs cs)) ≡ span c + busy cs
+        → total setupPart (cond t (c ∷ filter either cs) (filter either cs)) + total herePart (cond t (c ∷ filter either cs) (filter either cs))
+        + (cond t 0 (c .job .local) + base (jobs cs)) ≡ span c + busy cs
     step true h ih = omega (arith, span-parts c)
     step false h ih = omega (arith, span-here c h)
 
-pub busy-sum : (cs : List Chosen) → All Allowed cs → total setupPart (reverse (awayOrder cs)) + total herePart (reverse (awayOrder cs)) + base (jobs cs) ≡ busy cs
+pub busy-sum : (cs : List Chosen) → All Allowed cs
+    → total setupPart (reverse (awayOrder cs)) + total herePart (reverse (awayOrder cs)) + base (jobs cs) ≡ busy cs
 busy-sum cs a = omega (arith, busy-parts cs a, same setupPart, same herePart)
   where
     same : (f : Chosen → ℕ) → total f (reverse (awayOrder cs)) ≡ total f (filter either cs)

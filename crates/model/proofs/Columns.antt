@@ -34,8 +34,10 @@ module _ (D : ℕ) (os : List Job) (base : ℕ) where
   below-least : (n : ℕ) → IsLeast (Below n) (bestBelow D os base n)
   below-least zero = λ a m b. omega (arith, b .1)
   below-least (suc n) =
-      least-iff (λ (a m : ℕ). Below n a m ⊎ At n a m) (Below (suc n)) join (λ a m b. part a m (b .0) (b .2) (eq-or-lt-of-le (b .1))) (bestBelow D os base (suc n))
-      (pick-least (Below n) (At n) (bestBelow D os base n) (shift (n + base) 0 (row D os n)) (below-least n) (shift-least (n + base) 0 (Reach D os n) (row D os n) (row-least D os n)))
+      least-iff (λ (a m : ℕ). Below n a m ⊎ At n a m) (Below (suc n)) join (λ a m b. part a m (b .0) (b .2) (eq-or-lt-of-le (b .1)))
+      (bestBelow D os base (suc n))
+      (pick-least (Below n) (At n) (bestBelow D os base n) (shift (n + base) 0 (row D os n)) (below-least n)
+      (shift-least (n + base) 0 (Reach D os n) (row D os n) (row-least D os n)))
     where
       join : (a m : ℕ) → Below n a m ⊎ At n a m → Below (suc n) a m
       join a m (inl b) = (b .0, omega (arith, b .1), b .2)
@@ -55,7 +57,9 @@ module _ (D : ℕ) (os : List Job) (base : ℕ) where
       step false g h = omega arith
 
   pub total-least : IsLeast (λ (a m : ℕ). Total D os base a m × (a ≤ D)) (bestTotal D os base)
-  total-least = cap-least D (Total D os base) (bestBelow D os base (suc D)) (least-iff (Below (suc D)) (Total D os base) to from (bestBelow D os base (suc D)) (below-least (suc D)))
+  total-least =
+      cap-least D (Total D os base) (bestBelow D os base (suc D))
+      (least-iff (Below (suc D)) (Total D os base) to from (bestBelow D os base (suc D)) (below-least (suc D)))
     where
       to : (a m : ℕ) → Below (suc D) a m → Total D os base a m
       to a m b =

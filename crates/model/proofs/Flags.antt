@@ -36,7 +36,9 @@ mask-reverse (x ∷ xs) = ap mask (reverse-cons x xs) ∙ mask-snoc (reverse xs)
 
 -- the mask of a choice, by table positions
 pub mask-places : (js : List Job) (cs : List Chosen) → Choice js cs → maskOf cs ≡ ofDigits (map (λ (i : ℕ). (getD cs i noChoice) .away) (places js))
-mask-places js cs c = mask-reverse (awayOrder cs) ∙ ap (λ (l : List Chosen). ofDigits (map (λ (x : Chosen). x .away) l)) (order-places js cs c) ∙ ap ofDigits (map-map (places js))
+mask-places js cs c =
+    mask-reverse (awayOrder cs) ∙ ap (λ (l : List Chosen). ofDigits (map (λ (x : Chosen). x .away) l)) (order-places js cs c)
+    ∙ ap ofDigits (map-map (places js))
   where
     map-map : (is : List ℕ) → map (λ (x : Chosen). x .away) (map (λ (i : ℕ). getD cs i noChoice) is) ≡ map (λ (i : ℕ). (getD cs i noChoice) .away) is
     map-map [] = refl

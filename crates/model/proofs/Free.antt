@@ -45,6 +45,13 @@ digits-length : (n m : ℕ) → length (digits n m) ≡ n
 digits-length zero m = refl
 digits-length (suc n) m = ap suc (digits-length n _)
 
+-- the mask of a choice has as many digits as there are either jobs
+pub mask-short : (js : List Job) (m : ℕ) (cs : List Chosen) → Choice js cs → maskOf cs ≡ m → m < 2 ^ length (places js)
+mask-short js m cs c q =
+    let n : length (reverse (awayOrder cs)) ≡ length (places js) =
+    length-reverse (awayOrder cs) ∙ ap length (order-places js cs c) ∙ length-map (places js) (λ (i : ℕ). getD cs i noChoice) in
+    omega (arith, mask-lt (reverse (awayOrder cs)), ap (λ (k : ℕ). 2 ^ k) n)
+
 module _ (room : ℕ) (js : List Job) (fits : length js ≤ room) where
   -- a mask of as many digits as there are either jobs stands for a choice, whose mask it is
   pub mask-choice : (m : ℕ) → m < 2 ^ length (places js) → Choice js (choiceOf room js m) × (maskOf (choiceOf room js m) ≡ m)
@@ -59,23 +66,19 @@ module _ (room : ℕ) (js : List Job) (fits : length js ≤ room) where
       flags = marked (places js) (digits (length (places js)) m) (replicate room false)
 
       goes : (i : ℕ) → getD flags i false ≡ true → T (canGoAt js i)
-      goes i e = marked-only (λ (k : ℕ). T (canGoAt js k)) (places js) (digits (length (places js)) m) (replicate room false) (places-either js) (λ k g. absurd (no-flag room k g)) i e
+      goes i e =
+          marked-only (λ (k : ℕ). T (canGoAt js k)) (places js) (digits (length (places js)) m) (replicate room false) (places-either js)
+          (λ k g. absurd (no-flag room k g)) i e
 
   module _ (D : ℕ) where
     -- the answer's mask stands for the best choice
     pub answer-choice : (a m : ℕ) → answer D js ≡ cell a m → Best D js (choiceOf room js m) × (busy (choiceOf room js m) ≡ a)
     answer-choice a m e =
         let r = answer-best D js a m e in
-        let short : m < 2 ^ length (places js) = fewer (r .0) (r .1 .choice) (r .3) in
+        let short : m < 2 ^ length (places js) = mask-short js m (r .0) (r .1 .choice) (r .3) in
         let c = mask-choice m short in
         let b : Best D js (choiceOf room js m) = best-by-mask D js a m (choiceOf room js m) e (c .0) (c .1) in
         (b, ap busy (best-unique D js (choiceOf room js m) (r .0) b (r .1)) ∙ r .2)
-      where
-        fewer : (cs : List Chosen) → Choice js cs → maskOf cs ≡ m → m < 2 ^ length (places js)
-        fewer cs c q =
-            let n : length (reverse (awayOrder cs)) ≡ length (places js) =
-            length-reverse (awayOrder cs) ∙ ap length (order-places js cs c) ∙ length-map (places js) (λ (i : ℕ). getD cs i noChoice) in
-            omega (arith, mask-lt (reverse (awayOrder cs)), ap (λ (k : ℕ). 2 ^ k) n)
 
     -- what is found is the plan of the best choice
     pub free-best : (xs : List Chosen) → free room D js ≡ some xs → (cs : List Chosen) × Best D js cs × (xs ≡ plan cs)

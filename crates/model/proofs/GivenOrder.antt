@@ -70,9 +70,8 @@ module _ (D t : ℕ) (j : Job) where
       as-is : (x : Chosen) → (x .job ≡ j) × Allowed x × (t + span x + wait x ≤ D) → some x ≡ some c → (c .job ≡ j) × Allowed c × (t + span c + wait c ≤ D)
       as-is x h q = let p : x ≡ c = cc in subst (λ (y : Chosen). (y .job ≡ j) × Allowed y × (t + span y + wait y ≤ D)) p h
 
-      step :
-          (a b : Bool) → goes D t j ≡ a → leb (t + C) D ≡ b → cond a (some sent) (cond b (some kept) none) ≡ some c →
-          (c .job ≡ j) × Allowed c × (t + span c + wait c ≤ D)
+      step : (a b : Bool) → goes D t j ≡ a → leb (t + C) D ≡ b → cond a (some sent) (cond b (some kept) none) ≡ some c
+          → (c .job ≡ j) × Allowed c × (t + span c + wait c ≤ D)
       step true b p q e = let g = goes-yes p in as-is sent (refl, subst (λ (b : Bool). T (b || false)) (sym (g .0)) tt, g .2) e
       step false true p q e = as-is kept (refl, allow (isEither j), omega (arith, leb-true (t + C) D q)) e
         where
@@ -102,8 +101,12 @@ beats D t u d h a f = step (goes D t (d .job)) (d .away) refl refl a f
     step true true e q a f =
         record { one = sent D t j; decided = decide-sent D t j e; less = rw q (omega arith); tie = λ k x. subst T (sym q) tt }
     step true false e q a f =
-        let g = goes-yes D t j e .1 in
-        record { one = sent D t j; decided = decide-sent D t j e; less = rw q (omega arith); tie = λ k x. absurd (omega (arith, rw q at k)) }
+        record {
+          one = sent D t j;
+          decided = decide-sent D t j e;
+          less = rw q (omega (arith, goes-yes D t j e .1));
+          tie = λ k x. absurd (omega (arith, goes-yes D t j e .1, rw q at k));
+        }
     step false true e q a f =
         let k : C D t j ≤ S D t j = goes-no D t j e (can (isEither j) a) (omega arith) in
         record { one = kept D t j; decided = decide-kept D t j e (omega arith); less = rw q (omega arith); tie = λ k x. absurd x }
@@ -153,29 +156,46 @@ given-sound D t (j ∷ js) cs e = first (decide D t j) refl e (λ u ds f. given-
         let l : jobs ds ≡ js = r .0 .each in
         subst (λ (l : List Chosen). Choice (j ∷ js) l × Fits D t l) q (record { each = (cc); allowed = (s .1, r .0 .allowed) }, (s .2, r .1))
 
-    first :
-        (o : Option Chosen) → decide D t j ≡ o →
-        (elim o as (λ (x : Option Chosen). Option (List Chosen)) [ none ↦ none | some x ↦ put x (given D (t + span x) js) ]) ≡ some cs
+    first : (o : Option Chosen) → decide D t j ≡ o
+        → (elim o as (λ (x : Option Chosen). Option (List Chosen)) [ none ↦ none | some x ↦ put x (given D (t + span x) js) ]) ≡ some cs
         → ((u : ℕ) (ds : List Chosen) → given D u js ≡ some ds → Choice js ds × Fits D u ds) → Choice (j ∷ js) cs × Fits D t cs
     first none p e ih = clash (cc)
     first (some c) p e ih = second c p (given D (t + span c) js) refl e ih
 
 -- Timetables in table order are choices that fit back to back.
 
-inorder-fits :
-    (D t : ℕ) (ps : List Placed) → All (λ (p : Placed). t ≤ p .start) ps → Pairwise (λ (p q : Placed). spanEnd p ≤ q .start) ps → Meets D ps →
-    Fits D t (map what ps)
+inorder-fits : (D t : ℕ) (ps : List Placed) → All (λ (p : Placed). t ≤ p .start) ps → Pairwise (λ (p q : Placed). spanEnd p ≤ q .start) ps
+    → Meets D ps → Fits D t (map what ps)
 inorder-fits D t [] a o m = tt
-inorder-fits D t (p ∷ ps) a o m =
-    let from : All (λ (q : Placed). t + span (p .what) ≤ q .start) ps = all-map (λ q (k : spanEnd p ≤ q .start). omega (arith, k, a .0)) ps (o .0) in
-    (omega (arith, a .0, m .0), inorder-fits D (t + span (p .what)) ps from (o .1) (m .1))
+inorder-fits D t (p ∷ ps) a o m = (
+  omega (arith, a .0, m .0),
+  inorder-fits D (t + span (p .what)) ps
+      (all-map (λ (q : Placed) (k : spanEnd p ≤ q .start). omega (arith, k, a .0)) ps (o .0)) (o .1) (m .1),
+)
 
 laid-inorder : (t : ℕ) (cs : List Chosen) → Pairwise (λ (p q : Placed). spanEnd p ≤ q .start) (laid t cs)
 laid-inorder t [] = tt
 laid-inorder t (c ∷ cs) = (laid-from (t + span c) (t + span c) cs (omega arith), laid-inorder (t + span c) cs)
 
+-- two choices of which each keeps what the other keeps are one
+pub keeps-all-antisym : (xs ys : List Chosen) → jobs xs ≡ jobs ys → KeepsAll xs ys → KeepsAll ys xs → xs ≡ ys
+keeps-all-antisym [] [] e k l = refl
+keeps-all-antisym [] (y ∷ ys) e k l = clash (cc)
+keeps-all-antisym (x ∷ xs) [] e k l = clash (cc)
+keeps-all-antisym (x ∷ xs) (y ∷ ys) e k l =
+    let p : x ≡ y = chosen-path x y (cc) (same (x .away) (y .away) (k .0) (l .0)) in
+    let q : xs ≡ ys = keeps-all-antisym xs ys (cc) (k .1) (l .1) in
+    cc
+  where
+    same : (x y : Bool) → (T x → T y) → (T y → T x) → x ≡ y
+    same true true f g = refl
+    same true false f g = absurd (f tt)
+    same false true f g = absurd (g tt)
+    same false false f g = refl
+
 module _ (D : ℕ) (js : List Job) where
-  inorder-choice : (ps : List Placed) → InOrder js ps → Meets D ps → Choice js (map what ps) × Fits D 0 (map what ps)
+  -- the choices of a timetable in table order are on time back to back
+  pub inorder-choice : (ps : List Placed) → InOrder js ps → Meets D ps → Choice js (map what ps) × Fits D 0 (map what ps)
   inorder-choice ps i m = (
     record { each = sym (jobs-what ps) ∙ i .each; allowed = map-all what Allowed ps (i .allowed) },
     inorder-fits D 0 ps (all-all (λ (p : Placed). omega arith) ps) (i .inorder) m,
@@ -243,22 +263,7 @@ module _ (D : ℕ) (js : List Job) where
       let p = b .less ds (d .choice) (d .fits) in
       let q = d .less cs (b .choice) (b .fits) in
       let e : busy cs ≡ busy ds = omega arith in
-      both-keep cs ds (b .choice .each ∙ sym (d .choice .each)) (b .tie ds (d .choice) (d .fits) e) (d .tie cs (b .choice) (b .fits) (sym e))
-    where
-      same : (x y : Bool) → (T x → T y) → (T y → T x) → x ≡ y
-      same true true f g = refl
-      same true false f g = absurd (f tt)
-      same false true f g = absurd (g tt)
-      same false false f g = refl
-
-      both-keep : (xs ys : List Chosen) → jobs xs ≡ jobs ys → KeepsAll xs ys → KeepsAll ys xs → xs ≡ ys
-      both-keep [] [] e k l = refl
-      both-keep [] (y ∷ ys) e k l = clash (cc)
-      both-keep (x ∷ xs) [] e k l = clash (cc)
-      both-keep (x ∷ xs) (y ∷ ys) e k l =
-          let p : x ≡ y = chosen-path x y (cc) (same (x .away) (y .away) (k .0) (l .0)) in
-          let q : xs ≡ ys = both-keep xs ys (cc) (k .1) (l .1) in
-          cc
+      keeps-all-antisym cs ds (b .choice .each ∙ sym (d .choice .each)) (b .tie ds (d .choice) (d .fits) e) (d .tie cs (b .choice) (b .fits) (sym e))
 
   -- it is Algorithm 1's plan
   pub best-is-given : (cs : List Chosen) → BestInOrder D js cs → given D 0 js ≡ some cs

@@ -78,12 +78,17 @@ module _ (N D j t : ℕ) (o : Job) where
   I = returnTime o
 
   -- one job more at a column: x and y hold it before, x' and y' hold the column S earlier
-  module _ (x y x' y' : ℕ) (kept sent : Cell) (h : Holds N x y kept) (bits : (a m : ℕ) → kept ≡ cell a m → m < 2 ^ j) (small : (a m : ℕ) → kept ≡ cell a m → a + o .local < N) where
+  module _ (x y x' y' : ℕ) (kept sent : Cell) (h : Holds N x y kept) (bits : (a m : ℕ) → kept ≡ cell a m → m < 2 ^ j)
+      (small : (a m : ℕ) → kept ≡ cell a m → a + o .local < N) where
     here-held : Holds N (x + o .local) y (shift (o .local) 0 kept)
-    here-held = let e : y + 0 ≡ y = omega arith in subst (λ (u : ℕ). Holds N (x + o .local) u (shift (o .local) 0 kept)) e (shift-held N x y (o .local) 0 kept h small)
+    here-held =
+        let e : y + 0 ≡ y = omega arith in
+        subst (λ (u : ℕ). Holds N (x + o .local) u (shift (o .local) 0 kept)) e (shift-held N x y (o .local) 0 kept h small)
 
     away-held : Holds N x' y' sent → Holds N x' (y' + 2 ^ j) (shift 0 (2 ^ j) sent)
-    away-held k = let e : x' + 0 ≡ x' = omega arith in subst (λ (u : ℕ). Holds N u (y' + 2 ^ j) (shift 0 (2 ^ j) sent)) e (shift-held N x' y' 0 (2 ^ j) sent k (same-total N x' y' sent k))
+    away-held k =
+        let e : x' + 0 ≡ x' = omega arith in
+        subst (λ (u : ℕ). Holds N u (y' + 2 ^ j) (shift 0 (2 ^ j) sent)) e (shift-held N x' y' 0 (2 ^ j) sent k (same-total N x' y' sent k))
 
     -- sent away: there is room, and the total is lower than what keeping it here gives
     pub next-sent : Holds N x' y' sent → S ≤ t → t + I ≤ D → x' < x + o .local → Holds N x' (y' + 2 ^ j) (next D o j t kept sent)
@@ -105,6 +110,7 @@ module _ (N D j t : ℕ) (o : Job) where
             → Holds N (x + o .local) y (lower (shift (o .local) 0 kept) (cond (u && v) (shift 0 (2 ^ j) sent) empty))
         case true true e g (inl q) = absurd (omega (arith, leb-true S t e))
         case true true e g (inr (inl q)) = absurd (omega (arith, leb-true (t + I) D g))
-        case true true e g (inr (inr q)) = lower-first N (x + o .local) y x' (y' + 2 ^ j) (shift (o .local) 0 kept) (shift 0 (2 ^ j) sent) here-held (away-held (q .0)) (q .1)
+        case true true e g (inr (inr q)) =
+            lower-first N (x + o .local) y x' (y' + 2 ^ j) (shift (o .local) 0 kept) (shift 0 (2 ^ j) sent) here-held (away-held (q .0)) (q .1)
         case true false e g c = lower-nothing N (x + o .local) y (shift (o .local) 0 kept) here-held
         case false v e g c = lower-nothing N (x + o .local) y (shift (o .local) 0 kept) here-held

@@ -1,12 +1,14 @@
--- Laws of `All` and `Pairwise`: of a filtered list, of two lists joined, and of a list that is mapped.
+-- General laws of lists: of `All` and `Pairwise`, of what passes a test, of the first so many, of elements by position and of members.
 -- Assumes nothing.
-use mathlib.Core.Path.{_≡_}
+use mathlib.Core.Path.{_≡_, refl, ap, sym, subst, _∙_}
 use mathlib.Core.Bool.{Bool, true, false, cond}
-use mathlib.Core.List.{List, [], _∷_, _++_, map}
-use Prim.Native.Nat.{ℕ, zero, suc, _<_}
+use mathlib.Core.List.{List, [], _∷_, _++_, map, List·Memᴰ, List·Memᴰ·head, List·Memᴰ·tail}
+use Prim.Native.Nat.{ℕ, zero, suc, _+_, _-_, _≤_, _<_}
 use native.Mathlib.Omega.{arith}
+use native.Mathlib.Decide.{decLt}
 use lib.Dec.{T}
-use lib.ListN.{length, getD}
+use lib.ListN.{length, getD, take, replicate, length-replicate, List·getD-append, List·getD-eq-default, getD-replicate}
+use lib.Seq.{getD-append-add}
 use Rattle.model.specs.Lists.{All, Pairwise, filter}
 
 -- two different constructors are not equal: `clash (cc)`
@@ -48,6 +50,46 @@ module _ {A : Type 0} where
   all-at P (x ∷ xs) d a zero h = a .0
   all-at P (x ∷ xs) d a (suc k) h = all-at P xs d (a .1) k (omega arith)
 
+  pub all-take : (P : A → Type 0) (xs : List A) (i : ℕ) → All P xs → All P (take i xs)
+  all-take P [] zero a = tt
+  all-take P [] (suc i) a = tt
+  all-take P (x ∷ xs) zero a = tt
+  all-take P (x ∷ xs) (suc i) a = (a .0, all-take P xs i (a .1))
+
+  pub member-all : (P : A → Type 0) {x : A} {xs : List A} → All P xs → List·Memᴰ x xs → P x
+  member-all P h (List·Memᴰ·head e) = subst P (sym e) (h .0)
+  member-all P h (List·Memᴰ·tail m) = member-all P (h .1) m
+
+  pub take-all : (xs : List A) (i : ℕ) → length xs ≤ i → take i xs ≡ xs
+  take-all [] zero h = refl
+  take-all [] (suc i) h = refl
+  take-all (x ∷ xs) zero h = absurd (omega arith)
+  take-all (x ∷ xs) (suc i) h = ap (λ (l : List A). x ∷ l) (take-all xs i (omega arith))
+
+  -- below a list's length the default does not matter
+  pub at-any : (xs : List A) (k : ℕ) (d e : A) → k < length xs → getD xs k d ≡ getD xs k e
+  at-any [] k d e h = absurd (omega arith)
+  at-any (x ∷ xs) zero d e h = refl
+  at-any (x ∷ xs) (suc k) d e h = at-any xs k d e (omega arith)
+
+  pub filter-length : (f : A → Bool) (xs : List A) → length (filter f xs) ≤ length xs
+  filter-length f [] = omega arith
+  filter-length f (x ∷ xs) = step (f x) (filter-length f xs)
+    where
+      step : (b : Bool) → length (filter f xs) ≤ length xs → length (cond b (x ∷ filter f xs) (filter f xs)) ≤ suc (length xs)
+      step true h = omega arith
+      step false h = omega arith
+
+  pub filter-take : (f : A → Bool) (xs : List A) (i : ℕ) → length (filter f (take i xs)) ≤ length (filter f xs)
+  filter-take f [] zero = omega arith
+  filter-take f [] (suc i) = omega arith
+  filter-take f (x ∷ xs) zero = omega arith
+  filter-take f (x ∷ xs) (suc i) = step (f x) (filter f (take i xs)) (filter f xs) (filter-take f xs i)
+    where
+      step : (b : Bool) (ys zs : List A) → length ys ≤ length zs → length (cond b (x ∷ ys) ys) ≤ length (cond b (x ∷ zs) zs)
+      step true ys zs h = omega arith
+      step false ys zs h = h
+
   pub pairwise-map : {R Q : A → A → Type 0} → ((x y : A) → R x y → Q x y) → (xs : List A) → Pairwise R xs → Pairwise Q xs
   pairwise-map f [] h = tt
   pairwise-map f (x ∷ xs) h = (all-map (f x) xs (h .0), pairwise-map f xs (h .1))
@@ -55,6 +97,12 @@ module _ {A : Type 0} where
   pub pairwise-all : {R : A → A → Type 0} → ((x y : A) → R x y) → (xs : List A) → Pairwise R xs
   pairwise-all f [] = tt
   pairwise-all f (x ∷ xs) = (all-all (f x) xs, pairwise-all f xs)
+
+  pub pairwise-at : (d : A) (R : A → A → Type 0) (xs : List A) → Pairwise R xs → (i k : ℕ) → i < k → k < length xs → R (getD xs i d) (getD xs k d)
+  pairwise-at d R [] p i k h b = absurd (omega arith)
+  pairwise-at d R (x ∷ xs) p i zero h b = absurd (omega arith)
+  pairwise-at d R (x ∷ xs) p zero (suc k) h b = all-at (R x) xs d (p .0) k (omega arith)
+  pairwise-at d R (x ∷ xs) p (suc i) (suc k) h b = pairwise-at d R xs (p .1) i k (omega arith) (omega arith)
 
   pub pairwise-filter : (R : A → A → Type 0) (f : A → Bool) (xs : List A) → Pairwise R xs → Pairwise R (filter f xs)
   pairwise-filter R f [] h = tt
@@ -88,3 +136,18 @@ module _ {A B : Type 0} (g : A → B) where
   pub map-pairwise : (R : B → B → Type 0) (xs : List A) → Pairwise (λ (x y : A). R (g x) (g y)) xs → Pairwise R (map g xs)
   map-pairwise R [] h = tt
   map-pairwise R (x ∷ xs) h = (map-all (R (g x)) xs (h .0), map-pairwise R xs (h .1))
+
+-- zeros behind a list do not show
+pub padded : (xs : List ℕ) (n i : ℕ) → getD (xs ++ replicate n 0) i 0 ≡ getD xs i 0
+padded xs n i = step (decLt i (length xs))
+  where
+    zeros : (k : ℕ) → Dec (k < n) → _≡_ {A = ℕ} (getD (replicate n 0) k 0) 0
+    zeros k (yes h) = getD-replicate {A = ℕ} n k 0 0 h
+    zeros k (no h) = List·getD-eq-default (replicate n 0) 0 (omega (arith, length-replicate {A = ℕ} n 0))
+
+    step : Dec (i < length xs) → getD (xs ++ replicate n 0) i 0 ≡ getD xs i 0
+    step (yes h) = List·getD-append xs (replicate n 0) 0 i h
+    step (no h) =
+        let k : i ≡ length xs + (i - length xs) = omega arith in
+        ap (λ (m : ℕ). getD (xs ++ replicate n 0) m 0) k ∙ getD-append-add xs (replicate n 0) (i - length xs) 0
+        ∙ zeros (i - length xs) (decLt (i - length xs) n) ∙ sym (List·getD-eq-default xs 0 (omega arith))

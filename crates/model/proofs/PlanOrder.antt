@@ -38,7 +38,9 @@ module _ {A : Type 0} where
 
 -- away order is by falling return time
 order-falls : (cs : List Chosen) → Pairwise (λ (c d : Chosen). back d ≤ back c) (awayOrder cs)
-order-falls cs = pairwise-map (λ (c d : Chosen). weaken c d) (awayOrder cs) (falling-ranks back (λ (c d : Chosen). Unit {0}) (filter either cs) (pairwise-all (λ (c d : Chosen). tt) (filter either cs)))
+order-falls cs =
+    pairwise-map (λ (c d : Chosen). weaken c d) (awayOrder cs)
+    (falling-ranks back (λ (c d : Chosen). Unit {0}) (filter either cs) (pairwise-all (λ (c d : Chosen). tt) (filter either cs)))
   where
     weaken : (c d : Chosen) → Ranks back (λ (c d : Chosen). Unit {0}) c d → back d ≤ back c
     weaken c d (inl h) = omega arith

@@ -109,11 +109,23 @@ module _ (D : ℕ) (o : Job) (os : List Job) (t : ℕ) where
           → cond w (setupTime (x .job)) 0 + total setupPart xs ≡ t
           → cond w 0 (x .job .local) + total herePart xs ≡ a → cond w (2 ^ length xs) 0 + mask xs ≡ m → Kept a m ⊎ Sent a m
       side false g s h b =
-          inl (total herePart xs, mask xs, record { of = xs; jobs = rest; feasible = f .1; setups = omega arith; heres = refl; bits = refl }, omega (arith, sameC), omega arith)
+          inl (
+            total herePart xs,
+            mask xs,
+            record { of = xs; jobs = rest; feasible = f .1; setups = omega arith; heres = refl; bits = refl },
+            omega (arith, sameC),
+            omega arith,
+          )
       side true g s h b =
           inr (
             omega (arith, sameS, sameI, g tt),
-            (total herePart xs, mask xs, record { of = xs; jobs = rest; feasible = f .1; setups = omega (arith, sameS); heres = refl; bits = refl }, omega arith, omega (arith, sameP)),
+            (
+              total herePart xs,
+              mask xs,
+              record { of = xs; jobs = rest; feasible = f .1; setups = omega (arith, sameS); heres = refl; bits = refl },
+              omega arith,
+              omega (arith, sameP),
+            ),
           )
 
   reach-cases : (a m : ℕ) → Reach D (o ∷ os) t a m → Kept a m ⊎ Sent a m

@@ -13,7 +13,8 @@ use Rattle.model.specs.Run.{Took, RunOf, OnTime}
 abbrev listed : List Took → List Chosen
 listed rs = map (λ (r : Took). r .what) rs
 
-sooner : (D t u : ℕ) (rs : List Took) → t ≤ u → All (λ (r : Took). (r .spent ≤ span (r .what)) × (r .waited ≤ wait (r .what))) rs → Fits D u (listed rs) → OnTime D t rs
+sooner : (D t u : ℕ) (rs : List Took) → t ≤ u → All (λ (r : Took). (r .spent ≤ span (r .what)) × (r .waited ≤ wait (r .what))) rs
+    → Fits D u (listed rs) → OnTime D t rs
 sooner D t u [] h w f = tt
 sooner D t u (r ∷ rs) h w f = (omega (arith, w .0, f .0), sooner D (t + r .spent) (u + span (r .what)) rs (omega (arith, w .0)) (w .1) (f .1))
 

@@ -41,8 +41,8 @@ before D (p ∷ ps) a m w = (
 )
 
 -- what precedes in the plan (`pre`) and the next job fill no more than D less that job's wait
-fits :
-    (D : ℕ) (pre ps : List Placed) → Pairwise Apart pre → All (λ (q : Placed). All (λ (p : Placed). Before D p q) pre) ps → Pairwise (Before D) ps → Meets D ps
+fits : (D : ℕ) (pre ps : List Placed) → Pairwise Apart pre → All (λ (q : Placed). All (λ (p : Placed). Before D p q) pre) ps
+    → Pairwise (Before D) ps → Meets D ps
     → Fits D (total (λ (p : Placed). span (p .what)) pre) (map what ps)
 fits D pre [] a b c m = tt
 fits D pre (q ∷ ps) a b c m = (

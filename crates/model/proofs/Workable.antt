@@ -80,7 +80,8 @@ module _ (D : ℕ) where
       let r = fits-split D 0 (filter isAway (reverse xs)) (filter isAway (x ∷ [])) (subst (Fits D 0) (split-last x xs) f) in
       (step (x .away) refl (r .1), fits-feasible xs (r .0))
     where
-      step : (w : Bool) → x .away ≡ w → Fits D (0 + total span (filter isAway (reverse xs))) (cond w (x ∷ []) []) → T (x .away) → setupPart x + total setupPart xs + back x ≤ D
+      step : (w : Bool) → x .away ≡ w → Fits D (0 + total span (filter isAway (reverse xs))) (cond w (x ∷ []) []) → T (x .away)
+          → setupPart x + total setupPart xs + back x ≤ D
       step true e g t = omega (arith, away-parts x e, setups-reverse xs, g .0)
       step false e g t = absurd (subst T e t)
 
@@ -88,7 +89,8 @@ module _ (D : ℕ) where
   here-fits t [] a h = tt
   here-fits t (x ∷ xs) a h = (omega (arith, wait-here x (a .0)), here-fits (t + span x) xs (a .1) (omega arith))
 
-  fits-sum : (t : ℕ) (xs : List Chosen) → t ≤ D → Fits D t xs → t + total span xs ≤ D
+  -- jobs that are on time back to back end their last span by D
+  pub fits-sum : (t : ℕ) (xs : List Chosen) → t ≤ D → Fits D t xs → t + total span xs ≤ D
   fits-sum t [] h f = omega arith
   fits-sum t (x ∷ xs) h f = omega (arith, fits-sum (t + span x) xs (omega (arith, f .0)) (f .1))
 
@@ -99,7 +101,13 @@ module _ (D : ℕ) where
 
     plan-sum : total setupPart (reverse (awayOrder cs)) + total span (filter here cs) ≡ busy cs
     plan-sum =
-        omega (arith, total-perm span (perm-plan cs a), total-append span (filter isAway (awayOrder cs)) (filter here cs), setups-away (awayOrder cs), total-perm setupPart (Permᴰ·reverse (awayOrder cs)))
+        omega (
+          arith,
+          total-perm span (perm-plan cs a),
+          total-append span (filter isAway (awayOrder cs)) (filter here cs),
+          setups-away (awayOrder cs),
+          total-perm setupPart (Permᴰ·reverse (awayOrder cs)),
+        )
 
     pub workable-feasible : Workable D cs → Feasible D (reverse (awayOrder cs)) × (busy cs ≤ D)
     workable-feasible w =
@@ -112,7 +120,12 @@ module _ (D : ℕ) where
             setups-away (awayOrder cs),
             total-perm setupPart (Permᴰ·reverse (awayOrder cs)),
             fits-sum (0 + total span (filter isAway (awayOrder cs))) (filter here cs)
-                (omega (arith, setups-away (awayOrder cs), total-perm setupPart (Permᴰ·reverse (awayOrder cs)), setups-le D [] 0 (reverse (awayOrder cs)) f)) (r .1),
+                (omega (
+                  arith,
+                  setups-away (awayOrder cs),
+                  total-perm setupPart (Permᴰ·reverse (awayOrder cs)),
+                  setups-le D [] 0 (reverse (awayOrder cs)) f,
+                )) (r .1),
           ),
         )
 

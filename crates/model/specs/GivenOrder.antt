@@ -41,7 +41,8 @@ abbrev pub given : ℕ → ℕ → List Job → Option (List Chosen)
 given D t [] = some []
 given D t (j ∷ js) = elim (decide D t j) [ none ↦ none | some c ↦ put c (given D (t + span c) js) ]
 
--- What the plan so found is: of the choices that meet D back to back in table order, the one with the least busy total; of several, the one whose away jobs the others all send away too.
+-- What the plan so found is: of the choices that meet D back to back in table order, the one with the least busy total; of several, the one whose
+-- away jobs the others all send away too.
 
 -- wherever the first has a job away, the second has it away too
 abbrev pub KeepsAll : List Chosen → List Chosen → Type 0

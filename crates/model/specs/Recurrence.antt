@@ -54,8 +54,8 @@ abbrev pub bestTotal : ℕ → List Job → ℕ → Cell
 bestTotal D os base = cap D (bestBelow D os base (suc D))
 
 -- the table's either jobs in away order
-abbrev pub orderOf : List Job → List Job
-orderOf js = falling returnTime (filter isEither js)
+abbrev pub jobsInAwayOrder : List Job → List Job
+jobsInAwayOrder js = falling returnTime (filter isEither js)
 
 -- the here-only jobs' local times
 abbrev pub base : List Job → ℕ
@@ -63,7 +63,7 @@ base js = total (λ (j : Job). cond (isEither j) 0 (j .local)) js
 
 -- what the planner computes
 abbrev pub answer : ℕ → List Job → Cell
-answer D js = bestTotal D (reverse (orderOf js)) (base js)
+answer D js = bestTotal D (reverse (jobsInAwayOrder js)) (base js)
 
 -- bit j is set if the j-th job in away order is away
 abbrev pub mask : List Chosen → ℕ

@@ -6,7 +6,8 @@ use Prim.Native.Nat.{ℕ, _+_, _≤_}
 use Rattle.model.specs.Lists.{All}
 use Rattle.model.specs.Timetable.{Chosen, span, wait}
 
--- "A run of a plan puts the listed jobs back to back from tick 0; each span (C here, S away) and each return (I) takes a whole number of ticks from 0 up to its entry"
+-- "A run of a plan puts the listed jobs back to back from tick 0; each span (C here, S away) and each return (I) takes a whole number of ticks from 0
+-- up to its entry"
 
 -- what a listed job took: its span, and its return (0 if here)
 pub record Took : Type 0 where

@@ -41,6 +41,10 @@ pub record Placed : Type 0 where
   pub what : Chosen
   pub start : ℕ
 
+-- the choices of a timetable
+abbrev pub chosenIn : List Placed → List Chosen
+chosenIn ps = map (λ (p : Placed). p .what) ps
+
 -- "The job's span on the panel is C long if here, S long if away."
 
 abbrev pub span : Chosen → ℕ

@@ -3,7 +3,7 @@
 ghost use mathlib.Core.Path.{_≡_};
 ghost use Prim.Native.Nat.{_≤_};
 ghost use Rattle.model.specs.Timetable.{span, wait};
-ghost use Rattle.model.specs.Laying.{chosen, laidWith};
+ghost use Rattle.model.specs.Laying.{chosen, laidWith, mostBusy};
 
 // Whether a job may be sent away: a here-only job has no setup and no return time, an either job has both.
 pub enum Sending {
@@ -55,7 +55,7 @@ pub struct Laid {
 impl Laid {
     // With one job more behind the others.
     pub fn with(self, job: Job, away: bool) -> Laid
-        requires { ⌜ self .busy ≤ 4000000000 ⌝ }
+        requires { ⌜ self .busy ≤ mostBusy ⌝ }
         ensures { λ r. ⌜ r ≡ laidWith self (chosen job away) ⌝ }
     {
         let busy = self.busy + span_of(job, away);

@@ -1,15 +1,16 @@
 -- Laws of a plan's records and bytes that the functions' proofs use: what a record tells that is read, what is read where a
 -- record's bytes stand, the end of the loop, one more step, and the bytes of the steps from a place on. Assumes nothing.
 use Prim.Native.Nat.{ℕ, _+_, _-_, _*_, _≤_, _<_}
-use mathlib.Core.Path.{_≡_, refl}
+use mathlib.Core.Path.{_≡_, refl, ap}
 use mathlib.Core.Bool.{Bool, true, false, cond}
 use mathlib.Core.List.{List, [], _∷_, _++_}
-use lib.ListN.{length, getD, drop, replicate, length-append, drop-of-length-le}
+use lib.ListN.{length, getD, drop, replicate, length-map, length-append, drop-of-length-le}
 use lib.Seq.{take-append-seam, drop-cons}
 use lib.Dec.{ltb, leb}
 use native.Mathlib.Numerals.{add-one}
 use native.Mathlib.Omega.{arith}
 use borrow.Author.Tests.{ltb-true}
+use Rattle.model.specs.Timetable.{Chosen}
 use Rattle.model.proofs.Lists.{clash}
 use Rattle.table.specs.declared.refusal.Refusal.{Refusal}
 use Rattle.table.specs.declared.refusal.Refusal.the-variants.{After}
@@ -24,7 +25,7 @@ use Rattle.plan.specs.declared.Step.{Step}
 use Rattle.plan.specs.declared.Record.the-variants.{Listed, Last}
 use Rattle.plan.specs.declared.RecordRead.{RecordRead}
 use Rattle.plan.specs.declared.RecordRead.the-variants.{RecordIs, RecordRefused}
-use Rattle.plan.specs.Plans.{stepBody, recordAt, stepEntry, planRead, endedAt, stepBytes, planBytes, noStep, planOf, stepsOf, withStep}
+use Rattle.plan.specs.Plans.{stepBody, recordAt, stepEntry, planRead, endedAt, stepBytes, planBytes, noStep, planOf, stepsOf, withStep, stepOf, stepsFor}
 
 -- the reading of one record of a plan
 abbrev pub planEntry : List ℕ → ℕ → ℕ → Entry Step
@@ -108,3 +109,12 @@ bytes-more xs i h = simp (drop-cons xs i noStep h, add-one)
 pub bytes-done : (xs : List Step) (i : ℕ) → length xs ≤ i → planBytes (drop i xs) ≡ 0x2F ∷ []
 unfolding planBytes
 bytes-done xs i h = rw (drop-of-length-le xs {i = i} h)
+
+-- The lines of a plan of some jobs.
+
+pub steps-append : (cs ds : List Chosen) → stepsFor (cs ++ ds) ≡ stepsFor cs ++ stepsFor ds
+steps-append [] ds = refl
+steps-append (c ∷ cs) ds = ap (λ (l : List Step). stepOf c ∷ l) (steps-append cs ds)
+
+pub steps-length : (cs : List Chosen) → length (stepsFor cs) ≡ length cs
+steps-length cs = length-map cs stepOf

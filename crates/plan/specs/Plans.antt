@@ -2,9 +2,10 @@
 -- `readPlan` says what a byte string means as a plan, or which refusal it gets. Assumes nothing.
 use Prim.Native.Nat.{ℕ, suc, _+_, _-_, _*_}
 use mathlib.Core.Bool.{Bool, true, false, cond}
-use mathlib.Core.List.{List, [], _∷_, _++_}
+use mathlib.Core.List.{List, [], _∷_, _++_, map}
 use lib.ListN.{length, getD, take, set, replicate}
 use lib.Dec.{ltb, leb, eqb}
+use Rattle.model.specs.Timetable.{Chosen}
 use Rattle.table.specs.declared.refusal.Refusal.{Refusal}
 use Rattle.table.specs.declared.refusal.Refusal.the-variants.{Many, After, None}
 use Rattle.table.specs.declared.kind.StepKind.{StepKind}
@@ -98,3 +99,11 @@ stepsOf p = take (p .count) (p .steps)
 -- one more step
 abbrev pub withStep : Plan → Step → Plan
 withStep p x = record { count = p .count + 1; steps = set (p .steps) (p .count) x }
+
+-- Jobs with their choices as the lines of a plan.
+
+abbrev pub stepOf : Chosen → Step
+stepOf c = record { id = c .job .id; away = c .away }
+
+abbrev pub stepsFor : List Chosen → List Step
+stepsFor cs = map stepOf cs

@@ -7,40 +7,65 @@ use mathlib.Core.Option.{Option, none, some}
 use Prim.Native.Nat.{ℕ, _≤_}
 use native.Mathlib.Omega.{arith}
 use lib.ListN.{length, drop}
-use Rattle.model.specs.declared.Job.{Job}
 use Rattle.model.specs.Timetable.{Chosen}
 use Rattle.model.proofs.Lists.{clash}
 use Rattle.table.specs.declared.Table.{Table}
+use Rattle.table.specs.declared.TableVerdict.{TableVerdict}
+use Rattle.table.specs.declared.TableVerdict.the-variants.{Whole, Refused}
+use Rattle.table.specs.declared.TableRead.{TableRead}
+use Rattle.table.specs.declared.refusal.Refusal.{Refusal}
 use Rattle.table.specs.declared.refusal.Refusal.the-variants.{None}
 use Rattle.table.specs.Limits.{mostJobs, longestPlan}
-use Rattle.table.specs.Tables.{jobTable}
-use Rattle.plan.specs.Plans.{planBytes, stepsOf}
-use Rattle.plan.proofs.Steps.{steps-of-plan}
+use Rattle.table.specs.Refusals.{accepted, refused}
+use Rattle.table.specs.Tables.{JobTable, jobTable, Sound, readTable, tableRead}
+use Rattle.table.proofs.Reading.{read-refused, read-whole}
+use Rattle.plan.specs.Plans.{planBytes, stepsOf, stepsFor}
+use Rattle.plan.proofs.Steps.{steps-of-plan, steps-length}
 use Rattle.draft.specs.declared.Drafted.{Drafted}
-use Rattle.draft.specs.Drafts.{stepsFor, draftedOf}
-use Rattle.draft.proofs.Drafts.{steps-length}
+use Rattle.draft.specs.Drafts.{draftedOf}
 use Rattle.planner.specs.declared.Planned.{Planned}
 use Rattle.planner.specs.declared.Planned.the-variants.{PlanWritten, NotPlanned}
-use Rattle.planner.specs.Answers.{PlanAnswer, no-plan, planned, Finishes}
-use Rattle.table.proofs.Reading.{WholeRead}
+use Rattle.planner.specs.Answers.{wasRead, SoundRead, PlanAnswer, no-plan, planned, Finishes}
 
-module _ (made : Drafted) (o : Option (List Chosen)) (e : made ≡ draftedOf o) (before : List ℕ) where
-  pub finish-none : made .found ≡ false → Finishes o before (NotPlanned None) before
+-- What was read, by its verdict.
+
+pub whole-read : (x : TableRead) → x .verdict ≡ Whole → wasRead x ≡ accepted (jobTable (x .table))
+whole-read x h = rw h
+
+pub refused-read : (x : TableRead) (f : Refusal) → x .verdict ≡ Refused f → wasRead x ≡ refused f
+refused-read x f h = rw h
+
+-- what the reader makes of bytes is what they mean, and sound
+module _ (s : List ℕ) (x : TableRead) (e : x ≡ tableRead (readTable s)) where
+  pub was-read : wasRead x ≡ readTable s
+  was-read = step (x .verdict) refl
+    where
+      step : (v : TableVerdict) → x .verdict ≡ v → wasRead x ≡ readTable s
+      step Whole h = whole-read x h ∙ sym (read-whole s x e h .is)
+      step (Refused f) h = refused-read x f h ∙ sym (read-refused s x e f h)
+
+  pub sound-read : SoundRead x
+  sound-read h = read-whole s x e h .sound
+
+module _ (made : Drafted) (t : JobTable) (o : Option (List Chosen)) (e : made ≡ draftedOf o) (before : List ℕ) where
+  pub finish-none : made .found ≡ false → Finishes t o before (NotPlanned None) before
   finish-none h = step o (sym (ap (λ (m : Drafted). m .found) e) ∙ h)
     where
-      step : (p : Option (List Chosen)) → draftedOf p .found ≡ false → Finishes p before (NotPlanned None) before
+      step : (p : Option (List Chosen)) → draftedOf p .found ≡ false → Finishes t p before (NotPlanned None) before
       step none k = record { says = refl; left = refl }
       step (some xs) k = clash (cc)
 
-  pub finish-some : (after : List ℕ) (n : ℕ) → made .found ≡ true
-      → (n ≡ length (planBytes (stepsOf (made .draft .plan)))) ×
-      (after ≡ planBytes (stepsOf (made .draft .plan)) ++ drop (length (planBytes (stepsOf (made .draft .plan)))) before)
-      → Finishes o before (PlanWritten n (made .draft .laid .busy) (made .draft .laid .last)) after
+  abbrev bytes : List ℕ
+  bytes = planBytes (stepsOf (made .draft .plan))
+
+  abbrev written : ℕ → Planned
+  written n = PlanWritten n (made .draft .laid .busy) (made .draft .laid .last)
+
+  pub finish-some : (after : List ℕ) (n : ℕ) → made .found ≡ true → (n ≡ length bytes) × (after ≡ bytes ++ drop (length bytes) before)
+      → Finishes t o before (written n) after
   finish-some after n h w = step o e (sym (ap (λ (m : Drafted). m .found) e) ∙ h)
     where
-      step :
-          (p : Option (List Chosen)) → made ≡ draftedOf p → draftedOf p .found ≡ true →
-          Finishes p before (PlanWritten n (made .draft .laid .busy) (made .draft .laid .last)) after
+      step : (p : Option (List Chosen)) → made ≡ draftedOf p → draftedOf p .found ≡ true → Finishes t p before (written n) after
       step none q k = clash (cc)
       step (some xs) q k =
           let s : stepsOf (made .draft .plan) ≡ stepsFor xs = ap (λ (m : Drafted). stepsOf (m .draft .plan)) q ∙ steps-of-plan (stepsFor xs) in
@@ -50,31 +75,37 @@ module _ (made : Drafted) (o : Option (List Chosen)) (e : made ≡ draftedOf o) 
           }
 
 module _
-    (CanMeet : ℕ → List Job → Type 0)
-    (IsPlan : ℕ → List Job → List Chosen → Type 0)
-    (find : ℕ → List Job → Option (List Chosen))
-    (finds : (D : ℕ) (js : List Job) → length js ≤ mostJobs → (xs : List Chosen) → find D js ≡ some xs → IsPlan D js xs)
-    (misses : (D : ℕ) (js : List Job) → length js ≤ mostJobs → find D js ≡ none → ¬ (CanMeet D js))
-    (as-many : (D : ℕ) (js : List Job) (xs : List Chosen) → IsPlan D js xs → length xs ≡ length js)
+    (CanMeet : JobTable → Type 0)
+    (IsPlan : JobTable → List Chosen → Type 0)
+    (find : JobTable → Option (List Chosen))
+    (finds : (t : JobTable) → length (t .jobs) ≤ mostJobs → (xs : List Chosen) → find t ≡ some xs → IsPlan t xs)
+    (misses : (t : JobTable) → length (t .jobs) ≤ mostJobs → find t ≡ none → ¬ (CanMeet t))
+    (as-many : (t : JobTable) (xs : List Chosen) → IsPlan t xs → length xs ≡ length (t .jobs))
   where
     -- what is found fits a plan
-    pub found-few :
-        (s : List ℕ) (u : Table) → WholeRead s u → (made : Drafted) → made ≡ draftedOf (find (u .deadline) (jobTable u .jobs)) → made .draft .plan .count ≤ 32
-    found-few s u w made e = rw e (step (find (u .deadline) (jobTable u .jobs)) refl)
+    pub found-few : (u : Table) → Sound u → (made : Drafted) → made ≡ draftedOf (find (jobTable u)) → made .draft .plan .count ≤ mostJobs
+    found-few u sound made e = rw e (step (find (jobTable u)) refl)
       where
-        step : (o : Option (List Chosen)) → find (u .deadline) (jobTable u .jobs) ≡ o → draftedOf o .draft .plan .count ≤ 32
+        step : (o : Option (List Chosen)) → find (jobTable u) ≡ o → draftedOf o .draft .plan .count ≤ mostJobs
         step none q = omega arith
         step (some xs) q =
-            let few = w .sound .good .few in
-            omega (arith, steps-length xs, as-many (u .deadline) (jobTable u .jobs) xs (finds (u .deadline) (jobTable u .jobs) few xs q))
+            let few = sound .good .few in
+            omega (arith, steps-length xs, as-many (jobTable u) xs (finds (jobTable u) few xs q))
 
     -- the answer for a table that is read
-    pub answered : (s : List ℕ) (u : Table) → WholeRead s u → (before : List ℕ) (r : Planned) (after : List ℕ) → longestPlan ≤ length before
-        → (made : Drafted) → made ≡ draftedOf (find (u .deadline) (jobTable u .jobs)) →
-        ((o : Option (List Chosen)) → made ≡ draftedOf o → Finishes o before r after)
-        → PlanAnswer CanMeet IsPlan s before r after
-    answered s u w before r after h made e f = step (find (u .deadline) (jobTable u .jobs)) refl (f (find (u .deadline) (jobTable u .jobs)) e)
+    pub answered : (x : TableRead) → SoundRead x → x .verdict ≡ Whole → (made : Drafted) → made ≡ draftedOf (find (jobTable (x .table)))
+        → (before : List ℕ) (r : Planned) (after : List ℕ) → longestPlan ≤ length before
+        → ((t : JobTable) (o : Option (List Chosen)) → made ≡ draftedOf o → Finishes t o before r after)
+        → PlanAnswer CanMeet IsPlan (wasRead x) before r after
+    answered x sound whole made e before r after h f =
+        step (find t) refl (f t (find t) e)
       where
-        step : (o : Option (List Chosen)) → find (u .deadline) (jobTable u .jobs) ≡ o → Finishes o before r after → PlanAnswer CanMeet IsPlan s before r after
-        step none q k = no-plan h (jobTable u) (w .is) (misses (u .deadline) (jobTable u .jobs) (w .sound .good .few) q) k
-        step (some xs) q k = planned h (jobTable u) (w .is) xs (finds (u .deadline) (jobTable u .jobs) (w .sound .good .few) xs q) k
+        t : JobTable
+        t = jobTable (x .table)
+
+        few : length (t .jobs) ≤ mostJobs
+        few = sound whole .good .few
+
+        step : (o : Option (List Chosen)) → find t ≡ o → Finishes t o before r after → PlanAnswer CanMeet IsPlan (wasRead x) before r after
+        step none q k = no-plan h t (whole-read x whole) (misses t few q) k
+        step (some xs) q k = planned h t (whole-read x whole) xs (finds t few xs q) k

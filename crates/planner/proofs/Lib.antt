@@ -1,3 +1,4 @@
 pub mod Finishing
+pub mod Deadlines
 pub mod Orders
 pub mod Settled

@@ -1,13 +1,12 @@
 -- Two answers and areas that a planner's contract allows coincide: the contract settles the call.
 -- Assumes nothing.
-use mathlib.Core.Path.{_≡_, refl, sym, ap, _∙_}
+use mathlib.Core.Path.{_≡_, refl, sym, ap, subst, _∙_}
 use mathlib.Core.List.{List}
 use Prim.Native.Nat.{ℕ}
 use native.Mathlib.Omega.{arith}
-use Rattle.model.specs.declared.Job.{Job}
-use Rattle.model.specs.Timetable.{Chosen, Met}
+use Rattle.model.specs.Timetable.{Chosen, Timetable}
 use Rattle.model.specs.FreeOrder.{plan}
-use Rattle.model.specs.GivenOrder.{MetInOrder, BestInOrder}
+use Rattle.model.specs.GivenOrder.{InOrder}
 use Rattle.model.proofs.Lists.{clash}
 use Rattle.model.proofs.Timetables.{timetable-iff-workable}
 use Rattle.model.proofs.Best.{best-unique}
@@ -16,15 +15,15 @@ use Rattle.model.proofs.LeastDeadline.{least-unique, met-mono}
 use Rattle.table.specs.declared.refusal.Refusal.{Refusal}
 use Rattle.table.specs.declared.refusal.Refusal.the-variants.{None, Room}
 use Rattle.table.specs.Limits.{largestTime}
-use Rattle.table.specs.Refusals.{refusalSays, accepted}
-use Rattle.table.specs.Tables.{JobTable, readTable}
+use Rattle.table.specs.Refusals.{refusalSays, Outcome, accepted}
+use Rattle.table.specs.Tables.{JobTable}
 use Rattle.table.proofs.Refusals.{says-injective, says-not-zero}
 use Rattle.planner.specs.declared.Planned.{Planned}
 use Rattle.planner.specs.declared.Planned.the-variants.{PlanWritten, NotPlanned}
 use Rattle.planner.specs.declared.Least.{Least}
 use Rattle.planner.specs.declared.Least.the-variants.{DeadlineIs, NoDeadline}
-use Rattle.planner.specs.Answers.{plannedSays, leastSays, Refuses, Writes, PlanAnswer, no-room, bad-table, no-plan, planned, BestPlan, FreeAnswer}
-use Rattle.planner.specs.Answers.{GivenAnswer, LeastAnswer, never-met, met-from}
+use Rattle.planner.specs.Answers.{plannedSays, leastSays, Refuses, Writes, PlanAnswer, no-room, bad-table, no-plan, planned}
+use Rattle.planner.specs.Answers.{Possible, FreePlan, FreeRead, GivenPlan, GivenRead, LeastRead, never-met, met-from}
 
 -- what is said tells the answer
 pub planned-says-injective : (r q : Planned) → plannedSays r ≡ plannedSays q → r ≡ q
@@ -43,34 +42,34 @@ least-says-injective (DeadlineIs d) (NoDeadline g) h = absurd (says-not-zero g _
 least-says-injective (NoDeadline f) (DeadlineIs e) h = absurd (says-not-zero f _ h)
 least-says-injective (NoDeadline f) (NoDeadline g) h = ap NoDeadline (says-injective f g h)
 
--- a best plan tells that some timetable meets D, and there is one only
-pub best-meets : (D : ℕ) (js : List Job) (xs : List Chosen) → BestPlan D js xs → Met D js
-best-meets D js xs p = timetable-iff-workable D js .1 (p .0, p .1 .choice, p .1 .workable)
+-- a free-order plan tells that some timetable meets its deadline, and there is one only
+pub best-meets : (t : JobTable) (xs : List Chosen) → FreePlan t xs → Possible Timetable t
+best-meets t xs p = timetable-iff-workable (t .deadline) (t .jobs) .1 (p .0, p .1 .choice, p .1 .workable)
 
-pub one-best : (D : ℕ) (js : List Job) (xs ys : List Chosen) → BestPlan D js xs → BestPlan D js ys → xs ≡ ys
-one-best D js xs ys p o = p .2 ∙ (ap plan (best-unique D js (p .0) (o .0) (p .1) (o .1)) ∙ sym (o .2))
+pub one-best : (t : JobTable) (xs ys : List Chosen) → FreePlan t xs → FreePlan t ys → xs ≡ ys
+one-best t xs ys p o = p .2 ∙ (ap plan (best-unique (t .deadline) (t .jobs) (p .0) (o .0) (p .1) (o .1)) ∙ sym (o .2))
 
 -- the same answer, and the same area afterwards
 abbrev pub Same : Planned → List ℕ → Planned → List ℕ → Type 0
 Same r a q b = (r ≡ q) × (a ≡ b)
 
-module _ (s before : List ℕ) (r : Planned) (a : List ℕ) (q : Planned) (b : List ℕ) where
+module _ (read : Outcome JobTable) (before : List ℕ) (r : Planned) (a : List ℕ) (q : Planned) (b : List ℕ) where
   both-refuse : (f g : Refusal) → f ≡ g → Refuses f before r a → Refuses g before q b → Same r a q b
   both-refuse f g e h k = (planned-says-injective r q (h .says ∙ (ap refusalSays e ∙ sym (k .says))), h .left ∙ sym (k .left))
 
-  both-write : (xs ys : List Chosen) → xs ≡ ys → Writes xs before r a → Writes ys before q b → Same r a q b
-  both-write xs ys e h k = (planned-says-injective r q (h .says ∙ (rw e (sym (k .says)))), h .front ∙ (rw e (sym (k .front))))
+  both-write : (t : JobTable) (xs ys : List Chosen) → xs ≡ ys → Writes t xs before r a → Writes t ys before q b → Same r a q b
+  both-write t xs ys e h k = (planned-says-injective r q (h .says ∙ (rw e (sym (k .says)))), h .front ∙ (rw e (sym (k .front))))
 
-  same-table : (t u : JobTable) → readTable s ≡ accepted t → readTable s ≡ accepted u → t ≡ u
+  same-table : (t u : JobTable) → read ≡ accepted t → read ≡ accepted u → t ≡ u
   same-table t u e h = cc
 
   module _
-      (CanMeet : ℕ → List Job → Type 0)
-      (IsPlan : ℕ → List Job → List Chosen → Type 0)
-      (possible : (D : ℕ) (js : List Job) (xs : List Chosen) → IsPlan D js xs → CanMeet D js)
-      (unique : (D : ℕ) (js : List Job) (xs ys : List Chosen) → IsPlan D js xs → IsPlan D js ys → xs ≡ ys)
+      (CanMeet : JobTable → Type 0)
+      (IsPlan : JobTable → List Chosen → Type 0)
+      (possible : (t : JobTable) (xs : List Chosen) → IsPlan t xs → CanMeet t)
+      (unique : (t : JobTable) (xs ys : List Chosen) → IsPlan t xs → IsPlan t ys → xs ≡ ys)
     where
-      planner-settled : PlanAnswer CanMeet IsPlan s before r a → PlanAnswer CanMeet IsPlan s before q b → Same r a q b
+      planner-settled : PlanAnswer CanMeet IsPlan read before r a → PlanAnswer CanMeet IsPlan read before q b → Same r a q b
       planner-settled (no-room l h) (no-room m k) = both-refuse Room Room refl h k
       planner-settled (no-room l h) (bad-table m g e k) = absurd (omega arith)
       planner-settled (no-room l h) (no-plan m t e n k) = absurd (omega arith)
@@ -82,23 +81,30 @@ module _ (s before : List ℕ) (r : Planned) (a : List ℕ) (q : Planned) (b : L
       planner-settled (no-plan l t d n h) (no-room m k) = absurd (omega arith)
       planner-settled (no-plan l t d n h) (bad-table m g e k) = clash (cc)
       planner-settled (no-plan l t d n h) (no-plan m u e o k) = both-refuse None None refl h k
-      planner-settled (no-plan l t d n h) (planned m u e ys p k) = absurd (n (rw (same-table t u d e) (possible (u .deadline) (u .jobs) ys p)))
+      planner-settled (no-plan l t d n h) (planned m u e ys p k) = absurd (n (rw (same-table t u d e) (possible u ys p)))
       planner-settled (planned l t d xs p h) (no-room m k) = absurd (omega arith)
       planner-settled (planned l t d xs p h) (bad-table m g e k) = clash (cc)
-      planner-settled (planned l t d xs p h) (no-plan m u e n k) = absurd (n (rw (same-table u t e d) (possible (t .deadline) (t .jobs) xs p)))
+      planner-settled (planned l t d xs p h) (no-plan m u e n k) = absurd (n (rw (same-table u t e d) (possible t xs p)))
       planner-settled (planned l t d xs p h) (planned m u e ys o k) =
-          both-write xs ys (unique (u .deadline) (u .jobs) xs ys (rw (same-table t u d e) at p) o) h k
+          let same = same-table t u d e in
+          both-write u xs ys (unique u xs ys (subst (λ (v : JobTable). IsPlan v xs) same p) o) (subst (λ (v : JobTable). Writes v xs before r a) same h) k
 
-  pub free-settled : FreeAnswer s before r a → FreeAnswer s before q b → Same r a q b
-  free-settled = planner-settled Met BestPlan best-meets one-best
+  pub free-settled : FreeRead read before r a → FreeRead read before q b → Same r a q b
+  free-settled = planner-settled (Possible Timetable) FreePlan best-meets one-best
 
-  pub given-settled : GivenAnswer s before r a → GivenAnswer s before q b → Same r a q b
-  given-settled = planner-settled MetInOrder BestInOrder (λ D js xs p. best-in-order-iff D js .0 (xs, p)) best-in-order-unique
+  given-meets : (t : JobTable) (xs : List Chosen) → GivenPlan t xs → Possible InOrder t
+  given-meets t xs p = best-in-order-iff (t .deadline) (t .jobs) .0 (xs, p)
 
-pub least-settled : (s : List ℕ) (r q : Least) → LeastAnswer s r → LeastAnswer s q → r ≡ q
-least-settled s r q x y = least-says-injective r q (says x y)
+  one-given : (t : JobTable) (xs ys : List Chosen) → GivenPlan t xs → GivenPlan t ys → xs ≡ ys
+  one-given t xs ys p o = best-in-order-unique (t .deadline) (t .jobs) xs ys p o
+
+  pub given-settled : GivenRead read before r a → GivenRead read before q b → Same r a q b
+  given-settled = planner-settled (Possible InOrder) GivenPlan given-meets one-given
+
+pub least-settled : (read : Outcome JobTable) (r q : Least) → LeastRead read r → LeastRead read q → r ≡ q
+least-settled read r q x y = least-says-injective r q (says x y)
   where
-    says : LeastAnswer s r → LeastAnswer s q → leastSays r ≡ leastSays q
+    says : LeastRead read r → LeastRead read q → leastSays r ≡ leastSays q
     says (bad-table f d h) (bad-table g e k) = let x : f ≡ g = cc in h ∙ (ap refusalSays x ∙ sym k)
     says (bad-table f d h) (never-met t e n k) = clash (cc)
     says (bad-table f d h) (met-from t e m l k) = clash (cc)

@@ -41,7 +41,8 @@ changed-up a t v new xs xs' c w h e =
     changed-more a t a (t + 1) t v new xs xs' c w h (omega arith) (omega arith) (omega arith) (λ i p q s. (p, omega arith)) e
 
 -- the column before the range
-pub changed-down : (n b v : ℕ) (new : ℕ → ℕ) (xs xs' : List ℕ) → Changed n b new xs xs' → b ≤ columns → 0 < n → n ≤ b → v ≡ new (n - 1) → Changed (n - 1) b new xs (set xs' (n - 1) v)
+pub changed-down : (n b v : ℕ) (new : ℕ → ℕ) (xs xs' : List ℕ) → Changed n b new xs xs' → b ≤ columns → 0 < n → n ≤ b → v ≡ new (n - 1)
+    → Changed (n - 1) b new xs (set xs' (n - 1) v)
 changed-down n b v new xs xs' c w h k e =
     changed-more n b (n - 1) b (n - 1) v new xs xs' c (omega arith) (omega arith) (omega arith) (omega arith) (omega arith) (λ i p q s. (omega arith, q)) e
 

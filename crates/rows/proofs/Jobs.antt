@@ -10,10 +10,10 @@ use lib.ListN.{length, getD, take, length-reverse}
 use lib.Seq.{length-take-le, take-suc}
 use Rattle.model.specs.declared.Job.{Job}
 use Rattle.model.specs.Lists.{All}
-use Rattle.rows.specs.Rows.{Ready}
+use Rattle.rows.specs.Rows.{WithinRows}
 use Rattle.rows.specs.Columns.{Fit, Stepped, Rows}
 use Rattle.rows.proofs.Rows.{rows-fit, rows-next}
-use Rattle.table.specs.Limits.{largestTime}
+use Rattle.table.specs.Limits.{largestTime, mostJobs}
 
 pub taken-length : (jobs : List Job) (k : ℕ) → k ≤ length jobs → length (reverse (take k jobs)) ≡ k
 taken-length jobs k h = length-reverse (take k jobs) ∙ length-take-le k jobs h
@@ -26,21 +26,22 @@ taken-each P (j ∷ jobs) (suc n) zero none a h l = a .0
 taken-each P (j ∷ jobs) (suc n) (suc k) none a h l = taken-each P jobs n k none (a .1) (omega arith) (omega arith)
 
 -- a shift that stays below 2^32
-shifted : (k : ℕ) → k < 32 → (1 * 2 ^ k) % 4294967296 ≡ 2 ^ k
+shifted : (k : ℕ) → k < mostJobs → (1 * 2 ^ k) % 4294967296 ≡ 2 ^ k
 shifted k h =
     let l : 2 ^ k ≤ 2 ^ 31 = pow-le-pow-right {n = 2} (omega arith) {i = k} {j = 31} (omega arith) in
     let e : 1 * 2 ^ k ≡ 2 ^ k = omega arith in
     rw e (mod-eq-of-lt (omega arith))
 
 -- the k-th job is added to the rows of those before it; `none` is what an index past the jobs would read
-module _ (D base count k : ℕ) (jobs : List Job) (none : Job) (ts ms : List ℕ) (full : length jobs ≡ 32) (r : Ready D base jobs count) (h : k < count) (w : Rows D (reverse (take k jobs)) ts ms) where
+module _ (D base count k : ℕ) (jobs : List Job) (none : Job) (ts ms : List ℕ) (full : length jobs ≡ mostJobs) (r : WithinRows D base jobs count)
+    (h : k < count) (w : Rows D (reverse (take k jobs)) ts ms) where
   abbrev job : Job
   job = getD jobs k none
 
   abbrev bit : ℕ
   bit = (1 * 2 ^ k) % 4294967296
 
-  few : length (reverse (take k jobs)) < 32
+  few : length (reverse (take k jobs)) < mostJobs
   few = omega (arith, taken-length jobs k (omega (arith, r .few)), r .few)
 
   small : job .local ≤ largestTime

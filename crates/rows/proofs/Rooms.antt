@@ -42,7 +42,8 @@ room-within D S I s e (inl r) = (r .2, omega (arith, r .1))
 room-within D S I s e (inr r) = (omega (arith, r .0), omega (arith, r .1))
 
 -- a job more in three ranges: kept in the columns e..D, kept or sent in s..e, kept below s
-module _ (D : ℕ) (o : Job) (bit s e : ℕ) (ts ms ts₁ ts₂ ms₂ ts₃ : List ℕ) (room : RoomFor D (setupTime o) (returnTime o) s e) (k : Raised e (D + 1) (o .local) ts ts₁) (w : Sent s e s (o .local) bit ts₁ ms ts₂ ms₂) (l : Raised 0 s (o .local) ts₂ ts₃) where
+module _ (D : ℕ) (o : Job) (bit s e : ℕ) (ts ms ts₁ ts₂ ms₂ ts₃ : List ℕ) (room : RoomFor D (setupTime o) (returnTime o) s e)
+    (k : Raised e (D + 1) (o .local) ts ts₁) (w : Sent s e s (o .local) bit ts₁ ms ts₂ ms₂) (l : Raised 0 s (o .local) ts₂ ts₃) where
   ordered : s ≤ e
   ordered = room-within D (setupTime o) (returnTime o) s e room .0
 
@@ -76,7 +77,8 @@ module _ (D : ℕ) (o : Job) (bit s e : ℕ) (ts ms ts₁ ts₂ ms₂ ts₃ : Li
       sent : RoomFor D (setupTime o) (returnTime o) s e → (t : ℕ) → setupTime o ≤ t → t + returnTime o ≤ D
           → (getD ts₃ t 0 ≡ lowerTotal (setupTime o) (o .local) ts t) × (getD ms₂ t 0 ≡ lowerMask (setupTime o) (o .local) bit ts ms t)
       sent (inl r) t h g =
-          subst (λ (u : ℕ). (getD ts₃ t 0 ≡ lowerTotal u (o .local) ts t) × (getD ms₂ t 0 ≡ lowerMask u (o .local) bit ts ms t)) (r .0) (in-room t (omega (arith, r .0)) (omega (arith, r .1)))
+          subst (λ (u : ℕ). (getD ts₃ t 0 ≡ lowerTotal u (o .local) ts t) × (getD ms₂ t 0 ≡ lowerMask u (o .local) bit ts ms t)) (r .0)
+          (in-room t (omega (arith, r .0)) (omega (arith, r .1)))
       sent (inr r) t h g = absurd (omega (arith, r .2))
 
       kept : RoomFor D (setupTime o) (returnTime o) s e → (t : ℕ) → t ≤ D → (t < setupTime o) ⊎ (D < t + returnTime o)

@@ -17,7 +17,7 @@ use Rattle.model.proofs.Bounds.{row-bounds}
 use Rattle.model.proofs.Held.{next-sent, next-kept}
 use Rattle.rows.specs.Rows.{nothing, columns}
 use Rattle.rows.specs.Columns.{Fit, Raised, lower, Stepped, Column, Rows}
-use Rattle.table.specs.Limits.{largestTime}
+use Rattle.table.specs.Limits.{largestTime, mostJobs}
 
 -- the same column by other names of its numbers
 column-at : {D : ℕ} {os : List Job} {t x y x' y' : ℕ} → x' ≡ x → y' ≡ y → Column D os t x y → Column D os t x' y'
@@ -33,7 +33,8 @@ rows-start D n ts e h k =
         column-at (k .outside 0 (inl (omega arith)) ∙ getD-replicate n 0 zero 0 (omega arith)) (getD-replicate n 0 zero 0 (omega arith))
         (record { held = (refl, refl, omega arith); low = omega arith; bits = omega arith })
     at (suc t) l =
-        column-at (k .inside (suc t) (omega arith) (omega arith) ∙ ap (λ (x : ℕ). x + nothing) (getD-replicate n (suc t) zero 0 (omega arith))) (getD-replicate n (suc t) zero 0 (omega arith))
+        column-at (k .inside (suc t) (omega arith) (omega arith) ∙ ap (λ (x : ℕ). x + nothing) (getD-replicate n (suc t) zero 0 (omega arith)))
+        (getD-replicate n (suc t) zero 0 (omega arith))
         (record { held = omega arith; low = omega arith; bits = omega arith })
 
 -- what goes with the lower of two totals
@@ -45,7 +46,7 @@ lower-kept : (kept sent a b : ℕ) → ltb sent kept ≡ false → lower kept se
 unfolding lower
 lower-kept kept sent a b e = rw e
 
-module _ (D : ℕ) (os : List Job) (o : Job) (few : length os < 32) (small : o .local ≤ largestTime) (ts ms : List ℕ) (r : Rows D os ts ms) where
+module _ (D : ℕ) (os : List Job) (o : Job) (few : length os < mostJobs) (small : o .local ≤ largestTime) (ts ms : List ℕ) (r : Rows D os ts ms) where
   -- the rows have room for one job more
   pub rows-fit : Fit (D + 1) (o .local) ts × Fit (D + 1) (2 ^ length os) ms
   rows-fit =
@@ -80,7 +81,9 @@ module _ (D : ℕ) (os : List Job) (o : Job) (few : length os < 32) (small : o .
     stays : (t < S) ⊎ ((D < t + I) ⊎ (Holds nothing sent sentMask (row D os (t - S)) × (kept ≤ sent))) → Column D (o ∷ os) t kept (getD ms t 0)
     stays w =
         record {
-          held = next-kept nothing D (length os) t o (getD ts t 0) (getD ms t 0) sent sentMask (row D os t) (row D os (t - S)) (r .each t h .held) (λ a m e. low a m e .1) (λ a m e. low a m e .0) w;
+          held =
+              next-kept nothing D (length os) t o (getD ts t 0) (getD ms t 0) sent sentMask (row D os t) (row D os (t - S)) (r .each t h .held)
+              (λ a m e. low a m e .1) (λ a m e. low a m e .0) w;
           low = omega (arith, r .each t h .low);
           bits = omega (arith, r .each t h .bits, two-pow-succ (length os));
         }
@@ -89,7 +92,9 @@ module _ (D : ℕ) (os : List Job) (o : Job) (few : length os < 32) (small : o .
     goes p q l =
         let d = r .each (t - S) (omega arith) in
         record {
-          held = next-sent nothing D (length os) t o (getD ts t 0) (getD ms t 0) sent sentMask (row D os t) (row D os (t - S)) (r .each t h .held) (λ a m e. low a m e .1) (λ a m e. low a m e .0) (d .held) p q l;
+          held =
+              next-sent nothing D (length os) t o (getD ts t 0) (getD ms t 0) sent sentMask (row D os t) (row D os (t - S)) (r .each t h .held)
+              (λ a m e. low a m e .1) (λ a m e. low a m e .0) (d .held) p q l;
           low = omega (arith, d .low);
           bits = omega (arith, d .bits, two-pow-succ (length os));
         }

@@ -11,7 +11,7 @@ use Rattle.model.specs.declared.Job.{Job}
 use Rattle.model.specs.Lists.{total}
 use Rattle.model.specs.Timetable.{setupTime, returnTime}
 use Rattle.model.specs.Recurrence.{Holds, row}
-use Rattle.rows.specs.declared.Choice.{Choice}
+use Rattle.rows.specs.declared.Lowest.{Lowest}
 use Rattle.rows.specs.Rows.{nothing, columns}
 use Rattle.table.specs.Limits.{largestTime}
 
@@ -79,11 +79,11 @@ pub record Rows (D : ℕ) (os : List Job) (ts ms : List ℕ) : Type 0 where
   pub locals : total (λ (j : Job). j .local) os ≤ largestTime * length os
 
 -- of two choices the second where it is lower, at equal totals the one with the smaller mask
-abbrev pub Better : Choice → Choice → Choice → Type 0
+abbrev pub Better : Lowest → Lowest → Lowest → Type 0
 Better best next r =
     ((r ≡ next) × ((next .total < best .total) ⊎ ((next .total ≡ best .total) × (next .mask < best .mask))))
     ⊎ ((r ≡ best) × ((best .total < next .total) ⊎ ((best .total ≡ next .total) × (best .mask ≤ next .mask))))
 
 -- the total is `nothing` at most, and with `nothing` itself goes the mask 0: one choice stands for nothing
-abbrev pub Single : Choice → Type 0
+abbrev pub Single : Lowest → Type 0
 Single r = (r .total ≤ nothing) × (r .total ≡ nothing → r .mask ≡ 0)

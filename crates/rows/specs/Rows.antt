@@ -16,7 +16,7 @@ abbrev pub nothing : ℕ
 nothing = 4000000
 
 -- the rows have 4,001 columns, so the deadline is at most 4,000; so are the local times, of at most 32 jobs: no total reaches `nothing`
-pub record Ready (d base : ℕ) (jobs : List Job) (count : ℕ) : Type 0 where
+pub record WithinRows (d base : ℕ) (jobs : List Job) (count : ℕ) : Type 0 where
   pub deadline : d ≤ largestTime
   pub few : count ≤ mostJobs
   pub based : base ≤ mostJobs * largestTime

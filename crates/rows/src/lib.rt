@@ -10,7 +10,7 @@ ghost use lib.ListN.{length, take};
 ghost use Rattle.model.specs.Recurrence.{Holds, bestBelow};
 ghost use Rattle.model.specs.Timetable.{setupTime, returnTime};
 ghost use Rattle.table.specs.Limits.{mostJobs, largestTime};
-ghost use Rattle.rows.specs.Rows.{columns, nothing, Ready};
+ghost use Rattle.rows.specs.Rows.{columns, nothing, WithinRows};
 ghost use Rattle.rows.specs.Columns.{Fit, Raised, Sent, RoomFor, Stepped, Rows, lower, Better, Single};
 
 // One column for each tick from 0 to the largest time.
@@ -20,7 +20,7 @@ const COLUMNS: usize = 4001;
 const NOTHING: u32 = 4_000_000;
 
 // A choice's total, and its mask: bit j says that the j-th job in away order is away.
-pub struct Choice {
+pub struct Lowest {
     pub total: u32,
     pub mask: u32,
 }
@@ -82,7 +82,8 @@ fn send(
     local: u32,
     bit: u32,
 )
-    requires { ⌜ (length (now totals) ≡ columns) × (length (now masks) ≡ columns) × (setup ≤ end) × (end ≤ columns) × Fit end local (now totals) × Fit end bit (now masks) ⌝ }
+    requires { ⌜ (length (now totals) ≡ columns) × (length (now masks) ≡ columns) × (setup ≤ end) × (end ≤ columns)
+        × Fit end local (now totals) × Fit end bit (now masks) ⌝ }
     ensures { λ r. ⌜ Sent setup end setup local bit (now (totals .entry)) (now (masks .entry)) (now (totals .exit)) (now (masks .exit)) ⌝ }
 {
     let mut n = end;
@@ -98,7 +99,8 @@ fn send(
 
 // One job more, in the columns 0..=d: kept here where it cannot be sent away, else kept or sent, whichever has the lower total.
 fn add_job(totals: &mut [u32; COLUMNS], masks: &mut [u32; COLUMNS], d: usize, job: Job, bit: u32)
-    requires { ⌜ (length (now totals) ≡ columns) × (length (now masks) ≡ columns) × (d ≤ largestTime) × Fit (d + 1) (job .local) (now totals) × Fit (d + 1) bit (now masks) ⌝ }
+    requires { ⌜ (length (now totals) ≡ columns) × (length (now masks) ≡ columns) × (d ≤ largestTime)
+        × Fit (d + 1) (job .local) (now totals) × Fit (d + 1) bit (now masks) ⌝ }
     ensures { λ r. ⌜ Stepped d job bit (now (totals .entry)) (now (masks .entry)) (now (totals .exit)) (now (masks .exit)) ⌝ }
 {
     let local = job.local as u32;
@@ -109,7 +111,7 @@ fn add_job(totals: &mut [u32; COLUMNS], masks: &mut [u32; COLUMNS], d: usize, jo
 }
 
 // The better of two choices: the lower total, at equal totals the smaller mask.
-fn better(best: Choice, next: Choice) -> Choice
+fn better(best: Lowest, next: Lowest) -> Lowest
     ensures { λ r. ⌜ Better best next r ⌝ }
 {
     if next.total < best.total {
@@ -122,16 +124,18 @@ fn better(best: Choice, next: Choice) -> Choice
 }
 
 // The best of all columns 0..=d, each with its setup total and `base` added.
-fn best(totals: &[u32; COLUMNS], masks: &[u32; COLUMNS], d: usize, base: u32) -> Choice
-    requires { ⌜ (length (now totals) ≡ columns) × (length (now masks) ≡ columns) × (d ≤ largestTime) × (base ≤ mostJobs * largestTime) × Fit (d + 1) (largestTime + base) (now totals) ⌝ }
-    ensures { λ r. ⌜ Single r × ((os : List Job) → Rows d os (now (totals .entry)) (now (masks .entry)) → length os ≤ mostJobs → Holds nothing (r .total) (r .mask) (bestBelow d os base (suc d))) ⌝ }
+fn best(totals: &[u32; COLUMNS], masks: &[u32; COLUMNS], d: usize, base: u32) -> Lowest
+    requires { ⌜ (length (now totals) ≡ columns) × (length (now masks) ≡ columns) × (d ≤ largestTime)
+        × (base ≤ mostJobs * largestTime) × Fit (d + 1) (largestTime + base) (now totals) ⌝ }
+    ensures { λ r. ⌜ Single r × ((os : List Job) → Rows d os (now (totals .entry)) (now (masks .entry)) → length os ≤ mostJobs
+        → Holds nothing (r .total) (r .mask) (bestBelow d os base (suc d))) ⌝ }
 {
-    let mut found = Choice {
+    let mut found = Lowest {
         total: NOTHING,
         mask: 0,
     };
     for t in 0..d + 1 {
-        let next = Choice {
+        let next = Lowest {
             total: totals[t] + t as u32 + base,
             mask: masks[t],
         };
@@ -141,8 +145,8 @@ fn best(totals: &[u32; COLUMNS], masks: &[u32; COLUMNS], d: usize, base: u32) ->
 }
 
 // The least (busy total, mask) over all setup totals 0..=d of the `count` jobs in away order, `base` being what stays here in any case.
-pub fn least(d: usize, base: u32, jobs: [Job; Table::MOST_JOBS], count: usize) -> Choice
-    requires { ⌜ Ready d base jobs count ⌝ }
+pub fn least(d: usize, base: u32, jobs: [Job; Table::MOST_JOBS], count: usize) -> Lowest
+    requires { ⌜ WithinRows d base jobs count ⌝ }
     ensures { λ r. ⌜ Single r × Holds nothing (r .total) (r .mask) (bestBelow d (reverse (take count jobs)) base (suc d)) ⌝ }
 {
     let mut totals = [0u32; COLUMNS];

@@ -7,6 +7,7 @@ use lib.ListN.{take}
 use Rattle.model.specs.Recurrence.{bestBelow}
 use Rattle.model.proofs as model
 use Rattle.table.proofs as table
+use Rattle.table.specs.Limits.{largestTime}
 use Rattle.text.proofs as text
 use Rattle.plan.proofs as plan
 use Rattle.order.proofs as order
@@ -107,7 +108,7 @@ pub flags-of : SettlesAsked choice.flags_of.ended choice.flags_of.Reads.Pre choi
 flags-of κs i pre r s m n p q = (p (pre .js) (pre .held) ∙ sym (q (pre .js) (pre .held)), refl)
 
 pub earliest : SettlesAsked choice.earliest.ended choice.earliest.Reads.Pre choice.earliest.Reads.Learnt
-earliest κs i pre r s m n p q = (choice.Answers.earliest-settled (pre .js) r s (p (pre .js) (pre .held)) (q (pre .js) (pre .held)), refl)
+earliest κs i pre r s m n p q = (choice.Answers.earliest-settled largestTime (pre .js) r s (p (pre .js) (pre .held)) (q (pre .js) (pre .held)), refl)
 
 -- ---- draft, given, free
 
@@ -127,6 +128,15 @@ pub free-plan : Settles free.free_plan.ended free.free_plan.Reads.Learnt
 free-plan κs i r s m n p q = (p ∙ sym q, refl)
 
 -- ---- planner
+
+pub plan-free-read : Settles planner.plan_free_read.ended planner.plan_free_read.Reads.Learnt
+plan-free-read κs i r s m n p q = let same = planner.Settled.free-settled _ _ r (m .1 .0) s (n .1 .0) p q in (same .0, λ k. (tt, (same .1 k, tt)))
+
+pub plan-given-read : Settles planner.plan_given_read.ended planner.plan_given_read.Reads.Learnt
+plan-given-read κs i r s m n p q = let same = planner.Settled.given-settled _ _ r (m .1 .0) s (n .1 .0) p q in (same .0, λ k. (tt, (same .1 k, tt)))
+
+pub least-deadline-read : Settles planner.least_deadline_read.ended planner.least_deadline_read.Reads.Learnt
+least-deadline-read κs i r s m n p q = (planner.Settled.least-settled _ r s p q, refl)
 
 pub plan-free : Settles planner.plan_free.ended planner.plan_free.Reads.Learnt
 plan-free κs i r s m n p q = let same = planner.Settled.free-settled _ _ r (m .1 .0) s (n .1 .0) p q in (same .0, λ k. (tt, (same .1 k, tt)))

@@ -4,13 +4,12 @@ use mathlib.Core.Path.{_≡_, refl, sym, ap, _∙_}
 use mathlib.Core.List.{List, [], _∷_}
 use Prim.Native.Nat.{ℕ}
 use native.Mathlib.Omega.{arith}
-use Rattle.model.specs.declared.Job.{Job}
 use Rattle.model.specs.Timetable.{Chosen}
 use Rattle.model.proofs.Lists.{clash}
 use Rattle.table.specs.declared.refusal.Refusal.{Refusal}
 use Rattle.table.specs.Records.{formOf, judged, used, listFrom}
 use Rattle.table.specs.Refusals.{refusalSays, refused}
-use Rattle.table.specs.Tables.{frameAt, jobAt, jobsRead, readTable}
+use Rattle.table.specs.Tables.{JobTable, frameAt, jobAt, jobsRead, readTable}
 use Rattle.planner.specs.declared.Planned.{Planned}
 use Rattle.planner.specs.declared.Least.{Least}
 use Rattle.planner.specs.Answers as A
@@ -30,8 +29,8 @@ use Rattle.marked.proofs.Planners.{blank, blank-room}
 use Rattle.settled.specs.Settled.{RulesOut}
 
 -- a refused table is refused by number and place, where there is room
-module _ (CanMeet : ℕ → List Job → Type 0) (IsPlan : ℕ → List Job → List Chosen → Type 0) (s after : List ℕ) (f : Refusal) (bad : readTable s ≡ refused f) where
-  said-bad : (p : Planned) → PlanAnswer CanMeet IsPlan s blank p after → plannedSays p ≡ refusalSays f
+module _ (CanMeet : JobTable → Type 0) (IsPlan : JobTable → List Chosen → Type 0) (s after : List ℕ) (f : Refusal) (bad : readTable s ≡ refused f) where
+  said-bad : (p : Planned) → PlanAnswer CanMeet IsPlan (readTable s) blank p after → plannedSays p ≡ refusalSays f
   said-bad p (A.no-room w h) = absurd (omega (arith, blank-room))
   said-bad p (A.bad-table w g e h) = let same : g ≡ f = cc in h .says ∙ ap refusalSays same
   said-bad p (A.no-plan w t e n h) = clash (cc)

@@ -11,7 +11,8 @@ use Rattle.model.specs.declared.Sending.the-variants.{HereOnly, Either}
 use Rattle.model.specs.declared.Job.{Job}
 use Rattle.model.specs.Positions.{noJob}
 use Rattle.model.specs.Lists.{All, Pairwise}
-use Rattle.model.specs.Timetable.{setupTime, returnTime}
+use Rattle.model.specs.Timetable.{setupTime, returnTime, Chosen}
+use Rattle.model.specs.FreeOrder.{busy}
 use Rattle.table.specs.declared.refusal.Refusal.the-variants.{Range, Many, After}
 use Rattle.table.specs.declared.kind.RowKind.{RowKind}
 use Rattle.table.specs.declared.kind.RowKind.the-variants.{HereRow, EitherRow, EndRow}
@@ -31,6 +32,14 @@ use Rattle.table.specs.Records.{wordAt, frameOnly, rowOnly, judged, Entr
 pub record JobTable : Type 0 where
   pub deadline : ℕ
   pub jobs : List Job
+
+-- The deadline of a run of these choices: what timetables, planners, check and runner hold a finish to. Today the table's D, whatever is chosen.
+abbrev pub runDeadline : JobTable → List Chosen → ℕ
+runDeadline t cs = t .deadline
+
+-- Its busy total: what planners compare and say, and the check answers. Today the sum of the spans.
+abbrev pub runBusy : JobTable → List Chosen → ℕ
+runBusy t cs = busy cs
 
 -- "RANGE: a time above 4,000, or D = 0"
 abbrev pub timeOk : ℕ → Bool

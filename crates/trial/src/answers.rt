@@ -25,6 +25,7 @@ pub struct Best {
     pub tied: bool,
 }
 
+// A refusal's answer, with the area as it was lent.
 pub fn refused(number: usize, area: [u8; bytes::AREA]) -> Answer {
     Answer {
         number,
@@ -126,6 +127,7 @@ pub fn answer_of(jobs: Jobs, best: Best, rule: Rule) -> Answer
     }
 }
 
+// Whether two answers differ in anything.
 pub fn differ(a: Answer, b: Answer) -> bool {
     if a.number != b.number {
         return true;

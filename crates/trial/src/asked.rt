@@ -27,19 +27,25 @@ fn answer_of(planned: Planned, area: [u8; bytes::AREA]) -> Answer {
     }
 }
 
-// The plan in table order or in free order.
-pub fn plan(table: Bytes, given: bool) -> Answer {
+// The plan in free order.
+pub fn plan_free(table: Bytes) -> Answer {
     let text = table.area;
     let n = table.length();
     let mut area = bytes::untouched();
-    let planned = if given {
-        planner::plan_given(&text[..n], &mut area)
-    } else {
-        planner::plan_free(&text[..n], &mut area)
-    };
+    let planned = planner::plan_free(&text[..n], &mut area);
     answer_of(planned, area)
 }
 
+// The plan in table order.
+pub fn plan_given(table: Bytes) -> Answer {
+    let text = table.area;
+    let n = table.length();
+    let mut area = bytes::untouched();
+    let planned = planner::plan_given(&text[..n], &mut area);
+    answer_of(planned, area)
+}
+
+// The least deadline.
 pub fn least_deadline(table: Bytes) -> LeastAnswer {
     let text = table.area;
     let n = table.length();

@@ -16,6 +16,7 @@ pub fn untouched() -> [u8; AREA] {
 }
 
 impl Bytes {
+    // No bytes.
     pub fn none() -> Bytes {
         let area = untouched();
         Bytes { count: 0, area }

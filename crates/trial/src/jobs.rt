@@ -16,19 +16,23 @@ pub struct Jobs {
     pub either: usize,
 }
 
+// The job at a place.
 pub fn job_at(jobs: Jobs, place: usize) -> Job {
     let k = place % 8;
     jobs.list[k]
 }
 
+// Whether a set has the job at a place.
 pub fn has(set: usize, place: usize) -> bool {
     (set >> (place % 8)) % 2 == 1
 }
 
+// The set of one job.
 pub fn only(place: usize) -> usize {
     1 << (place % 8)
 }
 
+// Whether a set is part of another.
 pub fn within(part: usize, whole: usize) -> bool {
     part & whole == part
 }

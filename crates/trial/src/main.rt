@@ -20,9 +20,8 @@ ghost use Prim.Native.Nat.{_≤_};
 
 const TABLES: u64 = 4000;
 
-// A plan of the table, against the answer that goes with the best choice.
-fn plan_findings(table: Bytes, best: Best, expected: Answer, given: bool) -> u64 {
-    let answer = asked::plan(table, given);
+// A planner's answer, against the one that goes with the best choice.
+fn plan_findings(answer: Answer, best: Best, expected: Answer) -> u64 {
     report::mark(report::PLAN, answer.number == 0)
         | report::mark(report::NONE, answer.number == 7)
         | report::mark(report::TIE, best.tied)
@@ -38,7 +37,7 @@ fn given_findings(jobs: Jobs, table: Bytes, deadline: u32, least: u32) -> u64
     let best = answers::best_choice(jobs, finishes, deadline, Rule::GivenOrder);
     let expected = answers::answer_of(jobs, best, Rule::GivenOrder);
     let only_free = best.busy == search::NEVER && least <= deadline;
-    (plan_findings(table, best, expected, true) << report::GIVEN)
+    (plan_findings(asked::plan_given(table), best, expected) << report::GIVEN)
         | report::mark(report::ONLY_FREE, only_free)
 }
 
@@ -95,19 +94,31 @@ fn error_findings(jobs: Jobs, finishes: [u32; 64], deadline: u32, right: Answer)
         | report::mark(report::NONE_CAUGHT, by_none)
 }
 
-// All that is found of the table with this number; its bytes are shown if it is the first at which a planner differs.
-fn tried(number: u64, before: u64) -> u64 {
-    let jobs = tables::jobs_of(number);
-    let finishes = search::finishes(jobs, Rule::FreeOrder);
-    let least = search::least_of(finishes);
-    let deadline = tables::deadline_of(number, least);
+// What is found of the three planners; `right` is the answer that goes with the best choice in free order.
+fn planner_findings(
+    jobs: Jobs,
+    table: Bytes,
+    best: Best,
+    right: Answer,
+    deadline: u32,
+    least: u32,
+) -> u64
+    requires { ⌜ jobs .count ≤ 6 ⌝ }
+{
+    let free = plan_findings(asked::plan_free(table), best, right) << report::FREE;
+    let given = given_findings(jobs, table, deadline, least);
+    free | given | least_findings(table, deadline, least)
+}
+
+// All that is found of a table; its bytes are shown if it is the first at which a planner differs.
+fn findings(jobs: Jobs, finishes: [u32; 64], least: u32, deadline: u16, before: u64) -> u64
+    requires { ⌜ jobs .count ≤ 6 ⌝ }
+{
     let table = tables::table_bytes(jobs, deadline);
     let limit = deadline as u32;
     let best = answers::best_choice(jobs, finishes, limit, Rule::FreeOrder);
     let right = answers::answer_of(jobs, best, Rule::FreeOrder);
-    let free = plan_findings(table, best, right, false) << report::FREE;
-    let given = given_findings(jobs, table, limit, least);
-    let planned = free | given | least_findings(table, limit, least);
+    let planned = planner_findings(jobs, table, best, right, limit, least);
     if planned & report::DIFFERENCES != 0 && before & report::DIFFERENCES == 0 {
         report::show(table);
     }
@@ -115,6 +126,16 @@ fn tried(number: u64, before: u64) -> u64 {
     size | planned | error_findings(jobs, finishes, limit, right)
 }
 
+// The findings of the table with this number.
+fn tried(number: u64, before: u64) -> u64 {
+    let jobs = tables::jobs_of(number);
+    let finishes = search::finishes(jobs, Rule::FreeOrder);
+    let least = search::least_of(finishes);
+    let deadline = tables::deadline_of(number, least);
+    findings(jobs, finishes, least, deadline, before)
+}
+
+// Tries all tables, and prints the report.
 fn main() {
     let mut counts = [0; 32];
     let mut found = 0;

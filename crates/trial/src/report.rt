@@ -97,6 +97,7 @@ pub fn show(table: Bytes) {
     io::write_all(1, b"\n");
 }
 
+// Prints the report.
 pub fn print(counts: [u64; 32]) {
     print_text(
         b"tables #

@@ -17,12 +17,14 @@ pub enum Rule {
 // No layout ends so late.
 pub const NEVER: u32 = 0xFFFF_FFFF;
 
+// The later of two times.
 pub fn later(a: u32, b: u32) -> u32
     ensures { λ r. ⌜ r ≡ max a b ⌝ }
 {
     if a < b { b } else { a }
 }
 
+// The earlier of two times.
 fn earlier(a: u32, b: u32) -> u32
     ensures { λ r. ⌜ r ≡ min a b ⌝ }
 {

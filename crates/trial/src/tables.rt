@@ -50,6 +50,7 @@ fn drawn(table: u64, place: u64, purpose: u64, most: u16) -> u16
     ((number >> 9) % (most as u64 + 1)) as u16
 }
 
+// The time, or the largest time where it is above that.
 fn capped(time: u32) -> u16
     ensures { λ r. ⌜ r ≡ min time largestTime ⌝ }
 {
@@ -68,6 +69,7 @@ fn size_of(table: u64) -> usize
     if n <= 6 { n } else { n - 3 }
 }
 
+// Times up to these, with a set of either jobs.
 fn up_to(local: u16, setup: u16, back: u16, either: usize) -> Style {
     Style {
         local,
@@ -155,6 +157,7 @@ pub fn deadline_of(table: u64, least: u32) -> u16
     capped(above - 1)
 }
 
+// The bytes with a job's record more.
 fn with_job(bytes: Bytes, job: Job, either: bool) -> Bytes {
     let kind = if either { 0x12 } else { 0x11 };
     let here = bytes.with(kind).with(job.id).with_number(job.local);

@@ -12,7 +12,8 @@ least-requires c κs = ready-rows (c .before .args .p) (c .before .pre .1) (c .b
 returns : tie.Need-returns
 returns c js held =
     let start = c .before .before .before .before in
-    answer-mask (start .args .d) (c .before .before .least .result .total) _ (start .args .p) js held (c .before .before .least .ensures .1) (start .pre .0) (omega arith)
+    answer-mask (start .args .d) (c .before .before .least .result .total) _ (start .args .p) js held (c .before .before .least .ensures .1)
+    (start .pre .0) (omega arith)
 
 returns-2 : tie.Need-returns-2
 returns-2 c js held =

@@ -7,13 +7,14 @@ use Prim.Native.Nat.{_-_, _≤_}
 use native.Mathlib.Omega.{arith}
 use lib.ListN.{take, replicate}
 use Rattle.model.specs.Positions.{noJob}
+use Rattle.table.specs.Limits.{mostJobs}
 use Rattle.choice.specs.Choices.{jobsAt}
 use Rattle.choice.proofs.Loops.{jobs-more}
 use Rattle.choice.proofs.jobs_at.Statement.{statement}
 use Rattle.choice.proofs.jobs_at.Tie as tie
 
 abbrev Inv-loop : tie.InvT-loop
-Inv-loop count jobs places ordered₀ k₀ ordered k = (k ≤ count) × (ordered ≡ jobsAt jobs (take k places) ++ replicate (32 - k) noJob)
+Inv-loop count jobs places ordered₀ k₀ ordered k = (k ≤ count) × (ordered ≡ jobsAt jobs (take k places) ++ replicate (mostJobs - k) noJob)
 
 abbrev μ-loop : tie.MeasureT-loop
 μ-loop count jobs places ordered₀ k₀ ordered k = count - k

@@ -14,7 +14,8 @@ use Rattle.free.proofs.away_part.Statement.{statement}
 use Rattle.free.proofs.away_part.Tie as tie
 
 abbrev Inv-loop : tie.InvT-loop
-Inv-loop flags count places jobs draft₀ k₀ draft k = (k ≤ count) × ((js : List Job) → SoundJobs js → Prepares js count places jobs → Listing isAway [] (inAwayOrder js flags) draft k)
+Inv-loop flags count places jobs draft₀ k₀ draft k =
+    (k ≤ count) × ((js : List Job) → SoundJobs js → Prepares js count places jobs → Listing isAway [] (inAwayOrder js flags) draft k)
 
 abbrev μ-loop : tie.MeasureT-loop
 μ-loop flags count places jobs draft₀ k₀ draft k = count - k
@@ -53,7 +54,11 @@ loop-less : tie.Need-loop-less Inv-loop μ-loop
 loop-less c = search needs
 
 loop-again : tie.Need-loop-again Inv-loop μ-loop
-loop-again c = (search needs, λ js s p. away-more js s _ _ _ _ p _ _ _ (c .before .before .loop-test .taken) (c .before .before .before .loop .inv .1 js s p) (c .with-if .ensures))
+loop-again c = (
+  search needs,
+  λ js s p. away-more js s _ _ _ _ p _ _ _ (c .before .before .loop-test .taken) (c .before .before .before .loop .inv .1 js s p)
+      (c .with-if .ensures),
+)
 
 returns : tie.Need-returns Inv-loop μ-loop
 returns c = λ js s e. let p = prepares _ js e in away-end js s _ _ _ _ p _ _ (c .loop-test .left) (c .before .loop .inv .1 js s p)

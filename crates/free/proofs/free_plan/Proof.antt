@@ -29,7 +29,12 @@ empty-requires c κs = search needs
 returns : tie.Need-returns
 returns c =
     (λ k. record { found = false; draft = c .empty .ensures k }) ∙
-    found-nothing (jobTable (c .before .before .before .before .before .args .t) .jobs) (record { few = c .before .before .before .before .before .pre .good .few; times = c .before .before .before .before .before .pre .good .times }) (c .before .before .before .before .before .args .t .deadline) (sym (c .before .enum-told .given .1) ∙ c .before .before .before .best-choice .ensures (jobTable (c .before .before .before .before .before .args .t) .jobs) (c .before .before .before .before .prepare .ensures))
+    found-nothing (jobTable (c .before .before .before .before .before .args .t) .jobs)
+    (record { few = c .before .before .before .before .before .pre .good .few; times = c .before .before .before .before .before .pre .good .times })
+    (c .before .before .before .before .before .args .t .deadline)
+    (sym (c .before .enum-told .given .1)
+    ∙ c .before .before .before .best-choice .ensures (jobTable (c .before .before .before .before .before .args .t) .jobs)
+    (c .before .before .before .before .prepare .ensures))
 
 flags-of-requires : tie.Need-flags-of-requires
 flags-of-requires c κs = search needs
@@ -39,20 +44,47 @@ away-part-requires c κs = search needs
 
 here-part-requires : tie.Need-here-part-requires
 here-part-requires c κs =
-    let s : SoundJobs (jobTable (c .before .before .before .before .before .before .before .before .args .t) .jobs) = (record { few = c .before .before .before .before .before .before .before .before .pre .good .few; times = c .before .before .before .before .before .before .before .before .pre .good .times }) in
+    let s : SoundJobs (jobTable (c .before .before .before .before .before .before .before .before .args .t) .jobs) =
+    (record {
+      few = c .before .before .before .before .before .before .before .before .pre .good .few;
+      times = c .before .before .before .before .before .before .before .before .pre .good .times;
+    }) in
     let p = c .before .before .before .before .before .before .before .prepare .ensures in
-    let m = sym (c .before .before .before .before .found .given .1) ∙ c .before .before .before .before .before .before .best-choice .ensures (jobTable (c .before .before .before .before .before .before .before .before .args .t) .jobs) p in
-    let flags = c .before .before .flags-of .ensures (jobTable (c .before .before .before .before .before .before .before .before .args .t) .jobs) p in
-    (search needs, rw flags (found-room (jobTable (c .before .before .before .before .before .before .before .before .args .t) .jobs) s (c .before .before .before .before .before .before .before .before .args .t .deadline) (c .before .before .before .before .found .given .0 .0) m _ (rw flags at (c .before .away-part .ensures (jobTable (c .before .before .before .before .before .before .before .before .args .t) .jobs) s p))))
+    let m = sym (c .before .before .before .before .found .given .1)
+    ∙ c .before .before .before .before .before .before .best-choice .ensures
+    (jobTable (c .before .before .before .before .before .before .before .before .args .t) .jobs) p in
+    let flags = c .before .before .flags-of .ensures (jobTable (c .before .before .before .before .before .before .before .before .args .t) .jobs) p in (
+      search needs,
+      rw flags (found-room (jobTable (c .before .before .before .before .before .before .before .before .args .t) .jobs) s
+          (c .before .before .before .before .before .before .before .before .args .t .deadline) (c .before .before .before .before .found .given .0 .0) m _
+          (rw flags at (c .before .away-part .ensures (jobTable (c .before .before .before .before .before .before .before .before .args .t) .jobs) s p))),
+    )
 
 returns-2 : tie.Need-returns-2
 returns-2 c =
-    let s : SoundJobs (jobTable (c .before .before .before .before .before .before .before .before .before .args .t) .jobs) = (record { few = c .before .before .before .before .before .before .before .before .before .pre .good .few; times = c .before .before .before .before .before .before .before .before .before .pre .good .times }) in
+    let s : SoundJobs (jobTable (c .before .before .before .before .before .before .before .before .before .args .t) .jobs) =
+    (record {
+      few = c .before .before .before .before .before .before .before .before .before .pre .good .few;
+      times = c .before .before .before .before .before .before .before .before .before .pre .good .times;
+    }) in
     let p = c .before .before .before .before .before .before .before .before .prepare .ensures in
-    let m = sym (c .before .before .before .before .before .found .given .1) ∙ c .before .before .before .before .before .before .before .best-choice .ensures (jobTable (c .before .before .before .before .before .before .before .before .before .args .t) .jobs) p in
-    let flags = c .before .before .before .flags-of .ensures (jobTable (c .before .before .before .before .before .before .before .before .before .args .t) .jobs) p in
-    let sent = rw flags at (c .before .before .away-part .ensures (jobTable (c .before .before .before .before .before .before .before .before .before .args .t) .jobs) s p) in
-    found-plan (jobTable (c .before .before .before .before .before .before .before .before .before .args .t) .jobs) s (c .before .before .before .before .before .before .before .before .before .args .t .deadline) (c .before .before .before .before .before .found .given .0 .0) m _ ((rw flags at (c .here-part .ensures)) (filter isAway (inAwayOrder (jobTable (c .before .before .before .before .before .before .before .before .before .args .t) .jobs) (flagsOf (jobTable (c .before .before .before .before .before .before .before .before .before .args .t) .jobs) (c .before .before .before .before .before .found .given .0 .0)))) (found-room (jobTable (c .before .before .before .before .before .before .before .before .before .args .t) .jobs) s (c .before .before .before .before .before .before .before .before .before .args .t .deadline) (c .before .before .before .before .before .found .given .0 .0) m _ sent) sent)
+    let m = sym (c .before .before .before .before .before .found .given .1)
+    ∙ c .before .before .before .before .before .before .before .best-choice .ensures
+    (jobTable (c .before .before .before .before .before .before .before .before .before .args .t) .jobs) p in
+    let flags = c .before .before .before .flags-of .ensures
+    (jobTable (c .before .before .before .before .before .before .before .before .before .args .t) .jobs) p in
+    let sent = rw flags at (c .before .before .away-part .ensures
+    (jobTable (c .before .before .before .before .before .before .before .before .before .args .t) .jobs) s p) in
+    found-plan (jobTable (c .before .before .before .before .before .before .before .before .before .args .t) .jobs) s
+    (c .before .before .before .before .before .before .before .before .before .args .t .deadline)
+    (c .before .before .before .before .before .found .given .0 .0) m _
+    ((rw flags at (c .here-part .ensures))
+    (filter isAway (inAwayOrder (jobTable (c .before .before .before .before .before .before .before .before .before .args .t) .jobs)
+    (flagsOf (jobTable (c .before .before .before .before .before .before .before .before .before .args .t) .jobs)
+    (c .before .before .before .before .before .found .given .0 .0))))
+    (found-room (jobTable (c .before .before .before .before .before .before .before .before .before .args .t) .jobs) s
+    (c .before .before .before .before .before .before .before .before .before .args .t .deadline)
+    (c .before .before .before .before .before .found .given .0 .0) m _ sent) sent)
 
 pub free-plan-spec : {M : Type 1} → statement M
 free-plan-spec =

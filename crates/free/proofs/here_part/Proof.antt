@@ -15,7 +15,8 @@ use Rattle.free.proofs.here_part.Statement.{statement}
 use Rattle.free.proofs.here_part.Tie as tie
 
 abbrev Inv-loop : tie.InvT-loop
-Inv-loop count jobs flags draft₀ i₀ draft i = (i ≤ count) × ((before : List Chosen) → draft₀ ≡ draftOf before → Listing here before (choose (take count jobs) flags) draft i)
+Inv-loop count jobs flags draft₀ i₀ draft i =
+    (i ≤ count) × ((before : List Chosen) → draft₀ ≡ draftOf before → Listing here before (choose (take count jobs) flags) draft i)
 
 abbrev μ-loop : tie.MeasureT-loop
 μ-loop count jobs flags draft₀ i₀ draft i = count - i
@@ -34,7 +35,8 @@ array-copy-out-with-if c = search needs
 
 with-if-requires : tie.Need-with-if-requires Inv-loop μ-loop
 with-if-requires c κs =
-    let whole : length (take (c .before .before .before .args .count) (c .before .before .before .args .t2)) ≡ c .before .before .before .args .count = length-take-le _ _ (omega (arith, c .before .before .before .good .1 .0 .1 .0 .1)) in
+    let whole : length (take (c .before .before .before .args .count) (c .before .before .before .args .t2))
+    ≡ c .before .before .before .args .count = length-take-le _ _ (omega (arith, c .before .before .before .good .1 .0 .1 .0 .1)) in
     here-room _ _ _ _ whole (c .before .before .before .pre .1) _ _ (c .before .loop-test .taken) (c .before .before .loop .inv .1)
 
 add-i : tie.Need-add-i Inv-loop μ-loop
@@ -45,12 +47,17 @@ loop-less c = search needs
 
 loop-again : tie.Need-loop-again Inv-loop μ-loop
 loop-again c =
-    let whole : length (take (c .before .before .before .before .args .count) (c .before .before .before .before .args .t2)) ≡ c .before .before .before .before .args .count = length-take-le _ _ (omega (arith, c .before .before .before .before .good .1 .0 .1 .0 .1)) in
-    (search needs, here-more _ _ _ _ whole (c .before .before .before .before .pre .1) _ _ _ (c .before .before .loop-test .taken) (c .before .before .before .loop .inv .1) (c .with-if .ensures))
+    let whole : length (take (c .before .before .before .before .args .count) (c .before .before .before .before .args .t2))
+    ≡ c .before .before .before .before .args .count = length-take-le _ _ (omega (arith, c .before .before .before .before .good .1 .0 .1 .0 .1)) in (
+      search needs,
+      here-more _ _ _ _ whole (c .before .before .before .before .pre .1) _ _ _ (c .before .before .loop-test .taken)
+          (c .before .before .before .loop .inv .1) (c .with-if .ensures),
+    )
 
 returns : tie.Need-returns Inv-loop μ-loop
 returns c =
-    let whole : length (take (c .before .before .args .count) (c .before .before .args .t2)) ≡ c .before .before .args .count = length-take-le _ _ (omega (arith, c .before .before .good .1 .0 .1 .0 .1)) in
+    let whole : length (take (c .before .before .args .count) (c .before .before .args .t2))
+    ≡ c .before .before .args .count = length-take-le _ _ (omega (arith, c .before .before .good .1 .0 .1 .0 .1)) in
     λ before room e. here-end _ _ _ _ whole room _ _ (c .loop-test .left) before (c .before .loop .inv .1 before e)
 
 pub here-part-spec : {M : Type 1} → statement M

@@ -9,6 +9,7 @@ use borrow.Author.Needs.{needs}
 use lib.ListN.{length, take, length-map}
 use lib.Seq.{getD-take, length-take-le}
 use Rattle.model.specs.declared.Laid.{Laid}
+use Rattle.table.specs.Limits.{mostJobs}
 use Rattle.plan.specs.declared.Step.{Step}
 use Rattle.draft.specs.declared.Draft.{Draft}
 use Rattle.given.proofs.Going.{Going, going-begin, going-room, going-none, going-more, going-end}
@@ -28,7 +29,7 @@ abbrev μ-loop : tie.MeasureT-loop
 -- as many jobs stand there as are counted
 counted : (s : tie.Start Inv-loop μ-loop) → length (take (s .args .t1 .count) (s .args .t1 .jobs)) ≡ s .args .t1 .count
 counted s =
-    let full : length (s .args .t1 .jobs) ≡ 32 = simp length-map at (s .good .0 .1 .1 .1 .1 .0 .1 .0 .1) in
+    let full : length (s .args .t1 .jobs) ≡ mostJobs = simp length-map at (s .good .0 .1 .1 .1 .1 .0 .1 .0 .1) in
     length-take-le (s .args .t1 .count) (s .args .t1 .jobs) (omega (arith, s .pre))
 
 cast-d : tie.Need-cast-d Inv-loop μ-loop
@@ -59,7 +60,9 @@ returns : tie.Need-returns Inv-loop μ-loop
 returns c =
     let some = counted (c .before .before .before .before .before .before .before) in
     (λ k. record { found = false; draft = c .empty .ensures k }) ∙
-    going-none _ _ _ _ (c .before .before .before .before .before .before .loop .inv .1) (omega arith) _ (getD-take _ _ _ _ (c .before .before .before .before .before .loop-test .taken)) (sym (c .before .enum-told .given .1) ∙ c .before .before .before .decided .ensures)
+    going-none _ _ _ _ (c .before .before .before .before .before .before .loop .inv .1) (omega arith) _
+    (getD-take _ _ _ _ (c .before .before .before .before .before .loop-test .taken))
+    (sym (c .before .enum-told .given .1) ∙ c .before .before .before .decided .ensures)
 
 mul-steps : tie.Need-mul-steps Inv-loop μ-loop
 mul-steps c = search needs
@@ -79,8 +82,13 @@ loop-less c = search needs
 loop-again : tie.Need-loop-again Inv-loop μ-loop
 loop-again c =
     let some = counted (c .before .before .before .before .before .before .before .before) in
-    let few = c .before .before .before .before .before .before .before .before .pre in
-    (search needs, rw (c .with .ensures) (going-more _ _ _ _ (c .before .before .before .before .before .before .before .loop .inv .1) (omega arith) _ (getD-take _ _ _ _ (c .before .before .before .before .before .before .loop-test .taken)) _ (sym (c .before .before .decision .given .1) ∙ c .before .before .before .before .decided .ensures) (omega arith)))
+    let few = c .before .before .before .before .before .before .before .before .pre in (
+      search needs,
+      rw (c .with .ensures)
+          (going-more _ _ _ _ (c .before .before .before .before .before .before .before .loop .inv .1) (omega arith) _
+          (getD-take _ _ _ _ (c .before .before .before .before .before .before .loop-test .taken)) _
+          (sym (c .before .before .decision .given .1) ∙ c .before .before .before .before .decided .ensures) (omega arith)),
+    )
 
 returns-2 : tie.Need-returns-2 Inv-loop μ-loop
 returns-2 c =

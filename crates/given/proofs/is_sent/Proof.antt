@@ -26,10 +26,14 @@ returns : tie.Need-returns
 returns c = search needs
 
 returns-2 : tie.Need-returns-2
-returns-2 c = goes-yes _ _ (c .before .before .before .before .before .args .job) _ _ (c .before .before .before .sending .given .1) (c .before .if1 .taken) (c .if2 .taken)
+returns-2 c =
+    goes-yes _ _ (c .before .before .before .before .before .args .job) _ _ (c .before .before .before .sending .given .1) (c .before .if1 .taken)
+    (c .if2 .taken)
 
 returns-3 : tie.Need-returns-3
-returns-3 c = goes-late _ _ (c .before .before .before .before .before .args .job) _ _ (c .before .before .before .sending .given .1) (c .before .if1 .taken) (c .if2 .left)
+returns-3 c =
+    goes-late _ _ (c .before .before .before .before .before .args .job) _ _ (c .before .before .before .sending .given .1) (c .before .if1 .taken)
+    (c .if2 .left)
 
 returns-4 : tie.Need-returns-4
 returns-4 c = goes-slow _ _ (c .before .before .before .before .args .job) _ _ (c .before .before .sending .given .1) (c .if1 .left)

@@ -41,7 +41,7 @@ put-made-requires c κs =
     let w = read-whole _ _ (read .ensures) (c .before .before .enum-told .given .1) in
     let n = read-counted _ _ (read .ensures) (c .before .before .enum-told .given .1) in
     let e = made-text (now (s .args .table)) _ w n _ (c .free-plan .ensures) in
-    (free-few _ _ w _ (c .free-plan .ensures), w .sound .few, omega (arith, ap length e, text-short (now (s .args .table)) (λ i. omega (arith, c .before .before .before .before .before .before .before .before .shared-slice-known .given i))))
+    (free-few _ (w .sound) _ (c .free-plan .ensures), w .sound .few, omega (arith, ap length e, text-short (now (s .args .table)) (λ i. omega (arith, c .before .before .before .before .before .before .before .before .shared-slice-known .given i))))
 
 same-length : tie.Need-same-length
 same-length c = search needs

@@ -20,10 +20,14 @@ cast-result-2 : tie.Need-cast-result-2
 cast-result-2 c = search needs
 
 returns-2 : tie.Need-returns-2
-returns-2 c = (stuck-parts (c .before .before .before .args .job) (c .before .before .before .args .away) (c .before .before .if1 .left) (c .enum-told .given .1) .0, search needs)
+returns-2 c =
+    let s = c .before .before .before in
+    (stuck-parts (s .args .job) (s .args .away) (c .before .before .if1 .left) (c .enum-told .given .1) .0, search needs)
 
 returns-3 : tie.Need-returns-3
-returns-3 c = (away-parts (c .before .before .before .before .args .job) (c .before .before .before .before .args .away) _ _ (c .before .before .before .if1 .left) (c .before .sending .given .1) .0, search needs)
+returns-3 c =
+    let s = c .before .before .before .before in
+    (away-parts (s .args .job) (s .args .away) _ _ (c .before .before .before .if1 .left) (c .before .sending .given .1) .0, search needs)
 
 pub span-of-spec : {M : Type 1} → statement M
 span-of-spec =

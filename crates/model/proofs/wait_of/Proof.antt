@@ -17,10 +17,14 @@ cast-result : tie.Need-cast-result
 cast-result c = search needs
 
 returns-2 : tie.Need-returns-2
-returns-2 c = (stuck-parts (c .before .before .before .args .job) (c .before .before .before .args .away) (c .before .before .if1 .left) (c .enum-told .given .1) .1, search needs)
+returns-2 c =
+    let s = c .before .before .before in
+    (stuck-parts (s .args .job) (s .args .away) (c .before .before .if1 .left) (c .enum-told .given .1) .1, search needs)
 
 returns-3 : tie.Need-returns-3
-returns-3 c = (away-parts (c .before .before .before .before .args .job) (c .before .before .before .before .args .away) _ _ (c .before .before .before .if1 .left) (c .before .sending .given .1) .1, search needs)
+returns-3 c =
+    let s = c .before .before .before .before in
+    (away-parts (s .args .job) (s .args .away) _ _ (c .before .before .before .if1 .left) (c .before .sending .given .1) .1, search needs)
 
 pub wait-of-spec : {M : Type 1} → statement M
 wait-of-spec =

@@ -6,7 +6,7 @@ use Rattle.planner.proofs.finish.Statement.{statement}
 use Rattle.planner.proofs.finish.Tie as tie
 
 returns : tie.Need-returns
-returns c = λ o e. finish-none _ o e _ (not-true _ (c .if1 .taken))
+returns c = λ t o e. finish-none _ t o e _ (not-true _ (c .if1 .taken))
 
 write-plan-requires : tie.Need-write-plan-requires
 write-plan-requires c κs = search needs
@@ -15,7 +15,9 @@ same-length : tie.Need-same-length
 same-length c = search needs
 
 returns-2 : tie.Need-returns-2
-returns-2 c = λ o e. finish-some _ o e _ _ _ (not-false _ (c .before .before .before .before .before .before .before .if1 .left)) (c .before .before .write-plan .ensures)
+returns-2 c =
+    λ t o e. finish-some _ t o e _ _ _ (not-false _ (c .before .before .before .before .before .before .before .if1 .left))
+    (c .before .before .write-plan .ensures)
 
 pub finish-spec : {M : Type 1} → statement M
 finish-spec = tie.close (tie.spec returns write-plan-requires same-length returns-2)

@@ -38,11 +38,16 @@ raise-requires-2 c κs =
       c .before .send .ensures .totals .sized,
       omega arith,
       omega arith,
-      fit-before _ _ _ _ _ _ _ _ (c .before .send .ensures .totals) (omega arith) (r .0) (fit-before _ _ _ _ _ _ _ _ (c .before .before .before .before .raise .ensures) (omega arith) (r .1) (c .before .before .before .before .before .before .before .before .pre .3)),
+      fit-before _ _ _ _ _ _ _ _ (c .before .send .ensures .totals) (omega arith) (r .0)
+          (fit-before _ _ _ _ _ _ _ _ (c .before .before .before .before .raise .ensures) (omega arith) (r .1)
+          (c .before .before .before .before .before .before .before .before .pre .3)),
     )
 
 returns : tie.Need-returns
-returns c = stepped _ (c .before .before .before .before .before .before .before .before .before .args .job) _ _ _ _ _ _ _ _ _ (c .before .before .before .before .before .before .before .room-for .ensures) (c .before .before .before .before .before .raise .ensures) (c .before .before .send .ensures) (c .raise2 .ensures)
+returns c =
+    stepped _ (c .before .before .before .before .before .before .before .before .before .args .job) _ _ _ _ _ _ _ _ _
+    (c .before .before .before .before .before .before .before .room-for .ensures) (c .before .before .before .before .before .raise .ensures)
+    (c .before .before .send .ensures) (c .raise2 .ensures)
 
 pub add-job-spec : {M : Type 1} → statement M
 add-job-spec =

@@ -9,6 +9,7 @@ use borrow.Author.Needs.{needs}
 use lib.ListN.{length}
 use Rattle.model.specs.declared.Job.{Job}
 use Rattle.model.specs.Recurrence.{Holds, bestBelow}
+use Rattle.table.specs.Limits.{mostJobs}
 use Rattle.rows.specs.Rows.{nothing}
 use Rattle.rows.specs.Columns.{Rows, Single}
 use Rattle.rows.proofs.Bests.{best-next, single-next}
@@ -20,7 +21,7 @@ Inv-loop totals masks d base found₀ t₀ t-end found t =
     (t-end ≡ d + 1)
     × (t ≤ d + 1)
     × Single found
-    × ((os : List Job) → Rows d os totals masks → length os ≤ 32 → Holds nothing (found .total) (found .mask) (bestBelow d os base t))
+    × ((os : List Job) → Rows d os totals masks → length os ≤ mostJobs → Holds nothing (found .total) (found .mask) (bestBelow d os base t))
 
 abbrev μ-loop : tie.MeasureT-loop
 μ-loop totals masks d base found₀ t₀ t-end found t = t-end - t
@@ -66,7 +67,9 @@ loop-again c = (
   refl,
   omega arith,
   single-next _ _ _ (c .better .ensures) (c .before .before .before .before .loop .inv .2),
-  (λ os r h. rw add-one (best-next _ os _ _ _ _ _ _ _ r h (c .before .before .before .before .before .pre .3) (c .before .before .before .before .before .pre .2) (omega arith) refl refl (c .better .ensures) (c .before .before .before .before .loop .inv .3 os r h))),
+  (λ os r h. rw add-one (best-next _ os _ _ _ _ _ _ _ r h (c .before .before .before .before .before .pre .3)
+      (c .before .before .before .before .before .pre .2) (omega arith) refl refl (c .better .ensures)
+      (c .before .before .before .before .loop .inv .3 os r h))),
 )
 
 returns : tie.Need-returns Inv-loop μ-loop

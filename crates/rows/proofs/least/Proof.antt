@@ -45,7 +45,8 @@ shl-add-job c = search needs
 add-job-requires : tie.Need-add-job-requires Inv-loop μ-loop
 add-job-requires c κs =
     let r = c .before .before .before .before .loop .inv .1 in
-    let f = job-fits _ _ _ _ _ _ _ _ (c .before .before .before .before .before .before .before .good .1 .1 .0 .1 .0 .1) (c .before .before .before .before .before .before .before .pre) (c .before .before .before .loop-test .taken) r in
+    let f = job-fits _ _ _ _ _ _ _ _ (c .before .before .before .before .before .before .before .good .1 .1 .0 .1 .0 .1)
+    (c .before .before .before .before .before .before .before .pre) (c .before .before .before .loop-test .taken) r in
     (r .totalColumns, r .maskColumns, c .before .before .before .before .before .before .before .pre .deadline, f .0, f .1)
 
 add-k : tie.Need-add-k Inv-loop μ-loop
@@ -55,12 +56,18 @@ loop-less : tie.Need-loop-less Inv-loop μ-loop
 loop-less c = search needs
 
 loop-again : tie.Need-loop-again Inv-loop μ-loop
-loop-again c = (omega arith, job-added _ _ _ _ _ _ _ _ (c .before .before .before .before .before .before .before .before .good .1 .1 .0 .1 .0 .1) (c .before .before .before .before .before .before .before .before .pre) (c .before .before .before .before .loop-test .taken) (c .before .before .before .before .before .loop .inv .1) _ _ (c .add-job .ensures))
+loop-again c =
+    let s = c .before .before .before .before .before .before .before .before in (
+      omega arith,
+      job-added _ _ _ _ _ _ _ _ (s .good .1 .1 .0 .1 .0 .1) (s .pre) (c .before .before .before .before .loop-test .taken)
+          (c .before .before .before .before .before .loop .inv .1) _ _ (c .add-job .ensures),
+    )
 
 best-requires : tie.Need-best-requires Inv-loop μ-loop
 best-requires c κs =
     let r = c .before .before .before .loop .inv .1 in
-    let l = taken-length (c .before .before .before .before .before .before .args .t3) (c .before .before .before .loop .k) (omega (arith, c .before .before .before .before .before .before .good .1 .1 .0 .1 .0 .1)) in (
+    let l = taken-length (c .before .before .before .before .before .before .args .t3) (c .before .before .before .loop .k)
+    (omega (arith, c .before .before .before .before .before .before .good .1 .1 .0 .1 .0 .1)) in (
       r .totalColumns,
       r .maskColumns,
       c .before .before .before .before .before .before .pre .deadline,
@@ -71,7 +78,8 @@ best-requires c κs =
 returns : tie.Need-returns Inv-loop μ-loop
 returns c =
     let e : c .before .before .before .before .loop .k ≡ c .before .before .before .before .before .before .before .args .count = omega arith in
-    let l = taken-length (c .before .before .before .before .before .before .before .args .t3) (c .before .before .before .before .loop .k) (omega (arith, c .before .before .before .before .before .before .before .good .1 .1 .0 .1 .0 .1)) in
+    let l = taken-length (c .before .before .before .before .before .before .before .args .t3) (c .before .before .before .before .loop .k)
+    (omega (arith, c .before .before .before .before .before .before .before .good .1 .1 .0 .1 .0 .1)) in
     (c .best .ensures .0, rw e at (c .best .ensures .1 _ (c .before .before .before .before .loop .inv .1) (omega arith)))
 
 pub least-spec : {M : Type 1} → statement M

@@ -26,7 +26,15 @@ element-copy-out-totals : tie.Need-element-copy-out-totals Inv-loop μ-loop
 element-copy-out-totals c = search needs
 
 add-totals : tie.Need-add-totals Inv-loop μ-loop
-add-totals c = record { fits = omega (arith, c .before .before .loop .inv .2 .outside (c .before .before .loop .t) (inr (omega arith)), c .before .before .before .pre .3 (c .before .before .loop .t) (omega arith)) }
+add-totals c =
+    let s = c .before .before in
+    record {
+      fits = omega (
+        arith,
+        s .loop .inv .2 .outside (s .loop .t) (inr (omega arith)),
+        c .before .before .before .pre .3 (s .loop .t) (omega arith),
+      );
+    }
 
 element-write-totals : tie.Need-element-write-totals Inv-loop μ-loop
 element-write-totals c = search needs
@@ -38,7 +46,13 @@ loop-less : tie.Need-loop-less Inv-loop μ-loop
 loop-less c = search needs
 
 loop-again : tie.Need-loop-again Inv-loop μ-loop
-loop-again c = (omega arith, omega arith, changed-up _ _ _ _ _ _ (c .before .before .loop .inv .2) (omega arith) (omega arith) (ap (λ (x : ℕ). x + c .before .before .before .args .by) (c .before .before .loop .inv .2 .outside (c .before .before .loop .t) (inr (omega arith)))))
+loop-again c =
+    let s = c .before .before in (
+      omega arith,
+      omega arith,
+      changed-up _ _ _ _ _ _ (s .loop .inv .2) (omega arith) (omega arith)
+          (ap (λ (x : ℕ). x + c .before .before .before .args .by) (s .loop .inv .2 .outside (s .loop .t) (inr (omega arith)))),
+    )
 
 returns : tie.Need-returns Inv-loop μ-loop
 returns c = let e : c .before .loop .t ≡ c .before .before .args .to = omega arith in rw e at (c .before .loop .inv .2)

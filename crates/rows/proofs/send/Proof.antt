@@ -29,7 +29,15 @@ element-copy-out-kept : tie.Need-element-copy-out-kept Inv-loop μ-loop
 element-copy-out-kept c = search needs
 
 add-kept : tie.Need-add-kept Inv-loop μ-loop
-add-kept c = record { fits = omega (arith, c .before .before .loop .inv .2 .totals .outside (c .before .before .loop .n - 1) (inl (omega arith)), c .before .before .before .pre .4 (c .before .before .loop .n - 1) (omega arith)) }
+add-kept c =
+    let s = c .before .before in
+    record {
+      fits = omega (
+        arith,
+        s .loop .inv .2 .totals .outside (s .loop .n - 1) (inl (omega arith)),
+        c .before .before .before .pre .4 (s .loop .n - 1) (omega arith),
+      );
+    }
 
 sub-sent : tie.Need-sub-sent Inv-loop μ-loop
 sub-sent c = search needs
@@ -69,7 +77,12 @@ add-lower-of c =
     let n = c .before .before .before .before .before .before .loop .n in
     let setup = c .before .before .before .before .before .before .before .args .setup in
     record {
-      fits = omega (arith, c .before .before .before .before .before .before .loop .inv .2 .masks .outside (n - 1 - setup) (inl (omega arith)), c .before .before .before .before .before .before .before .pre .5 (n - 1 - setup) (omega arith));
+      fits =
+          omega (
+            arith,
+            c .before .before .before .before .before .before .loop .inv .2 .masks .outside (n - 1 - setup) (inl (omega arith)),
+            c .before .before .before .before .before .before .before .pre .5 (n - 1 - setup) (omega arith),
+          );
     }
 
 lower-of-requires-2 : tie.Need-lower-of-requires-2 Inv-loop μ-loop
@@ -88,7 +101,9 @@ loop-again : tie.Need-loop-again Inv-loop μ-loop
 loop-again c = (
   omega arith,
   omega arith,
-  sent-down _ _ _ _ _ _ _ _ _ _ _ (c .before .before .before .before .before .before .before .loop .inv .2) (c .before .before .before .before .before .before .before .before .pre .3) (omega arith) (omega arith) (c .before .before .before .lower-of .ensures) (c .lower-of2 .ensures),
+  sent-down _ _ _ _ _ _ _ _ _ _ _ (c .before .before .before .before .before .before .before .loop .inv .2)
+      (c .before .before .before .before .before .before .before .before .pre .3) (omega arith) (omega arith)
+      (c .before .before .before .lower-of .ensures) (c .lower-of2 .ensures),
 )
 
 returns : tie.Need-returns Inv-loop μ-loop

@@ -19,10 +19,16 @@ add-finish : tie.Need-add-finish
 add-finish c = omega (arith, c .before .before .span-of .ensures .1, c .wait-of .ensures .1)
 
 returns : tie.Need-returns
-returns c = laid-later (c .before .before .before .before .args .self) (chosen (c .before .before .before .before .args .job) (c .before .before .before .before .args .away)) (c .before .before .before .span-of .ensures .0) (c .before .wait-of .ensures .0) (c .if1 .taken)
+returns c =
+    let s = c .before .before .before .before in
+    laid-later (s .args .self) (chosen (s .args .job) (s .args .away)) (c .before .before .before .span-of .ensures .0)
+    (c .before .wait-of .ensures .0) (c .if1 .taken)
 
 returns-2 : tie.Need-returns-2
-returns-2 c = laid-sooner (c .before .before .before .before .args .self) (chosen (c .before .before .before .before .args .job) (c .before .before .before .before .args .away)) (c .before .before .before .span-of .ensures .0) (c .before .wait-of .ensures .0) (c .if1 .left)
+returns-2 c =
+    let s = c .before .before .before .before in
+    laid-sooner (s .args .self) (chosen (s .args .job) (s .args .away)) (c .before .before .before .span-of .ensures .0)
+    (c .before .wait-of .ensures .0) (c .if1 .left)
 
 pub with-spec : {M : Type 1} → statement M
 with-spec =

@@ -7,7 +7,11 @@ use Rattle.trial.proofs.bytes.Bytes.length.Statement.{statement}
 use Rattle.trial.proofs.bytes.Bytes.length.Tie as tie
 
 returns : tie.Need-returns
-returns c = (search needs, counts (c .before .args .self .count) (c .before .args .self .area) (omega (arith, simp length-map at (c .before .good .0 .1 .1 .1 .0 .1 .0 .1))))
+returns c = (
+  search needs,
+  counts (c .before .args .self .count) (c .before .args .self .area)
+      (omega (arith, simp length-map at (c .before .good .0 .1 .1 .1 .0 .1 .0 .1))),
+)
 
 returns-2 : tie.Need-returns-2
 returns-2 c = (search needs, counts 72 (c .before .args .self .area) (omega (arith, simp length-map at (c .before .good .0 .1 .1 .1 .0 .1 .0 .1))))
