@@ -1,7 +1,7 @@
 -- A plan that either planner writes reads back as that plan, and has at most 65 bytes.
 -- Assumes nothing.
 use mathlib.Core.Path.{_≡_, refl, sym, ap, subst, _∙_}
-use mathlib.Core.List.{List, [], _∷_, map, List·Permᴰ, Permᴰ·symm, Permᴰ·refl}
+use mathlib.Core.List.{List, List·Permᴰ, Permᴰ·symm, Permᴰ·refl}
 use Prim.Native.Nat.{ℕ, _≤_}
 use native.Mathlib.Omega.{arith}
 use lib.ListN.{length, take, drop}
