@@ -101,6 +101,13 @@ def check_wrong_answers(tree):
                 troubles.append(f'{FUNCTIONS}: no theorem is called {name}')
 
 
+def check_paths(document):
+    """A path below crates/ that a document names is there."""
+    for path in re.findall(r'(?<![\w/])crates/[\w/.+-]*\w', text(document)):
+        if not os.path.exists(os.path.join(TOP, path)) and not path.startswith('crates/NAME'):
+            troubles.append(f'{document}: there is no {path}')
+
+
 def check_edits(document):
     for crate, names in re.findall(r'(\w+)/must-fail/(\w+(?:, \w+(?=[,)\s|]))*)', text(document)):
         for name in names.split(', ') if crate not in ('target', 'NAME') else []:
@@ -147,6 +154,7 @@ def main():
     troubles.extend(refusal_troubles(TOP))
     for document in DOCUMENTS:
         check_names(document, tree)
+        check_paths(document)
         check_edits(document)
         check_links(document)
         check_quotes(document, tree)

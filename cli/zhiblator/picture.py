@@ -61,12 +61,12 @@ class Picture:
             yield f'<text x="{self.left + x + 20}" y="{y + 11}">{words}</text>'
 
     def lines(self):
-        width, height = self.left + ACROSS + RIGHT, self.base + 52
+        title = f'{self.title}: the plan, ticks of 1 ms'
+        width, height = self.left + max(ACROSS + RIGHT, round(1.2 * breadth(title))), self.base + 52
         yield (f'<svg xmlns="http://www.w3.org/2000/svg" width="{width}" height="{height}" '
                f'viewBox="0 0 {width} {height}" font-family="sans-serif" font-size="13">')
         yield f'<rect width="{width}" height="{height}" fill="white"/>'
-        yield (f'<text x="{self.left}" y="22" font-size="14" font-weight="bold">'
-               f'{escape(self.title)}: the plan, ticks of 1 ms</text>')
+        yield f'<text x="{self.left}" y="22" font-size="14" font-weight="bold">{escape(title)}</text>'
         for place, (stay, label) in enumerate(zip(self.layout.stays, self.labels)):
             yield from self.job(stay, label, TOP + ROW * place)
         yield from self.axis()

@@ -27,8 +27,9 @@ def least_hint(library, table, given=False):
     least = library.least(table)
     if isinstance(least, Refusal):
         return None, 'these jobs meet no deadline up to 4,000'
-    order = ' in free order' if given else ''
-    return least, f'the least deadline that these jobs meet{order} is {least}'
+    if given:
+        return least, f'the jobs were kept in table order; in free order the least deadline that they meet is {least}'
+    return least, f'the least deadline that these jobs meet is {least}'
 
 
 def refuse(args, refusal, read, library=None, about='', more=None):

@@ -8,6 +8,7 @@ EXAMPLE = """\
   printf 'away 1\\naway 2\\nhere 3\\n' | ./zhiblator check tables/e.words -
     passes busy 40 last 45
   A refusal says which file it is about: `plan refused 10`, `table refused 1 at 11`.
+  A planner's plan as a file: ./zhiblator bytes TABLE --plan FILE
 """
 
 

@@ -23,7 +23,8 @@ EXAMPLE = """\
     close TIME
     read ID
     raw HEX                                      any bytes, as of a damaged record
-  A log may also be hex text or a file of bytes (docs/REPLAY.md).
+  A log may also be hex text or a file of bytes (docs/REPLAY.md). A refused call is an answer: the exit code is 1 only
+  where the log stops, as this one does at its cut last record.
 """
 WIDEST_CALL = 64
 ANSWER = re.compile(r'(?P<call>\w+) (?:refused (?P<number>\d+)(?: at (?P<place>\d+))?'
