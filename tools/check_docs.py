@@ -22,6 +22,7 @@ TOP = os.path.abspath(os.path.join(os.path.dirname(os.path.abspath(__file__)), '
 DOCUMENTS = sorted(glob.glob('*.md', root_dir=TOP) + glob.glob('*/README.md', root_dir=TOP) + glob.glob('docs/**/*.md', root_dir=TOP, recursive=True))
 FUNCTIONS = 'docs/FUNCTIONS.md'
 FORMS = 'docs/DECISIONS.md'
+ENTRIES = ['table', 'plan', 'planner', 'judge', 'frame', 'frame_lent', 'listing', 'replaying', 'panel']
 troubles = []
 
 
@@ -59,6 +60,15 @@ def check_functions(tree):
     compare(f'{FUNCTIONS}, asking', {path_of(f) for f in public if ' requires ' in f.contract}, asking)
     silent = {(row[0].strip(), name) for row in cells(section(FUNCTIONS, 'Functions with no `ensures`')) for name in re.findall(r'`(\w+)`', row[1])}
     compare(f'{FUNCTIONS}, no ensures', {(f.path, f.key.split('.')[-1]) for f in tree.functions if ' ensures ' not in f.contract}, silent)
+
+
+def check_signatures(tree):
+    """The entry points with the types of their parameters, and the events of the runner, as FUNCTIONS.md prints them."""
+    printed = section(FUNCTIONS, 'Entry points, with the types of what they take').split('```')[1].split('\n')[1:-1]
+    entries = [f for f in tree.functions if f.public and not f.program and f.crate in ENTRIES and ' requires ' not in f.contract]
+    found = [path_of(f).rsplit('::', 1)[0] + ': ' + re.split(' (?:requires|ensures) ', f.contract)[0].strip() for f in entries]
+    events = re.search(r'pub enum Event \{.*?\n\}', tree.texts['crates/frame/src/lib.rt'], re.S)[0]
+    compare(f'{FUNCTIONS}, entry points', set(found + [' '.join(events.split())]), set(printed))
 
 
 def rows(part, column):
@@ -149,6 +159,7 @@ def check_counts(heading, lines):
 def main():
     tree = Tree(TOP)
     check_functions(tree)
+    check_signatures(tree)
     check_wrong_answers(tree)
     check_trusted(tree)
     troubles.extend(refusal_troubles(TOP))

@@ -34,7 +34,8 @@ class Plan(Case):
     def test_none_tells_the_least_deadline(self):
         for words, text, hint in (
                 ([], E.replace('45', '44'), 'the least deadline that these jobs meet is 45'),
-                (['--given'], E_TURNED, 'in free order the least deadline that they meet is 45'),
+                (['--given'], E_TURNED, 'the jobs were kept in table order; '
+                 'in free order the least deadline that they meet is 45'),
                 ([], LONG, 'these jobs meet no deadline up to 4,000')):
             out, err = self.refused('plan', *words, self.file(text))
             self.assertEqual((out, err), ('refused 7\n', f'NONE: no timetable meets the deadline; {hint}\n'))

@@ -3,3 +3,4 @@ pub mod Choices
 pub mod Plans
 pub mod Accord
 pub mod Prints
+pub mod Panel

@@ -1,3 +1,4 @@
 pub mod Allows
 pub mod Exact
 pub mod Prints
+pub mod Panel

@@ -2,10 +2,14 @@
 -- that the called function's own contract allows, as Rattle reads it of the source (`Reads.Learnt`). Assumes nothing.
 use Prim.Native.Nat.{ℕ}
 use mathlib.Core.Path.{_≡_}
+use mathlib.Core.Bool.{Bool}
 use mathlib.Core.List.{List, [], _∷_}
 use Rattle.faults.specs.Allows.{to}
 use Rattle.frame.specs.Step.{answerSays}
 use Rattle.frame.specs.Run.{Call, begin, event}
+use Rattle.frame.specs.declared.Answer.{Answer}
+use Rattle.frame.specs.declared.Event.{Event}
+use Rattle.frame.specs.declared.Event.the-variants as E
 use Rattle.frame.specs.declared.Frame.{Frame}
 use Rattle.frame.specs.declared.Step.{Step}
 use Rattle.frame.proofs as frame
@@ -28,3 +32,27 @@ Runs May f (t ∷ ts) = (s : Step) × May f (t .call) s × (t .said ≡ answerSa
 
 abbrev pub FromIdle : List Turn → Type 0
 FromIdle ts = (f : Frame) × Starts f × Runs Allows f ts
+
+-- the same turns, and the record that they come to
+abbrev pub Reaches : Frame → List Turn → Frame → Type 0
+Reaches f [] g = f ≡ g
+Reaches f (t ∷ ts) g = (s : Step) × Allows f (t .call) s × (t .said ≡ answerSays (s .answer)) × Reaches (s .frame) ts g
+
+-- what `Frame::sound` may answer
+abbrev pub SoundAllows : Frame → Bool → Type 0
+SoundAllows f r = frame.Frame.sound.Reads.Learnt tt (f, tt) r (f, tt)
+
+-- what the functions for single calls may answer: those that only ask, and those that hand a record back
+abbrev pub AskAllows : Frame → Event → Answer → Type 0
+AskAllows f E.Next r = frame.Frame.panel_job.Reads.Learnt tt (f, tt) r (f, tt)
+AskAllows f (E.Read id) r = frame.Frame.read.Reads.Learnt tt (f, (id, tt)) r (f, (id, tt))
+AskAllows f (E.SpanEnd id t v) r = ⊥
+AskAllows f (E.Return n id t v) r = ⊥
+AskAllows f (E.Close t) r = ⊥
+
+abbrev pub CallAllows : Frame → Event → Step → Type 0
+CallAllows f E.Next s = ⊥
+CallAllows f (E.Read id) s = ⊥
+CallAllows f (E.SpanEnd id t v) s = frame.Frame.span_end.Reads.Learnt tt (f, (id, (t, (v, tt)))) s (f, (id, (t, (v, tt))))
+CallAllows f (E.Return n id t v) s = frame.Frame.give_back.Reads.Learnt tt (f, (n, (id, (t, (v, tt))))) s (f, (n, (id, (t, (v, tt)))))
+CallAllows f (E.Close t) s = frame.Frame.close.Reads.Learnt tt (f, (t, tt)) s (f, (t, tt))

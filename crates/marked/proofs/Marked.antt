@@ -3,17 +3,15 @@
 use mathlib.Core.Path.{refl}
 use mathlib.Core.List.{[], _∷_, _++_}
 use native.Mathlib.Omega.{arith}
-use Rattle.table.specs.declared.refusal.Refusal.the-variants.{Short}
-use Rattle.table.specs.Refusals.{place}
 use Rattle.table.specs.Records.{formOf, judged, used, listFrom}
 use Rattle.table.specs.Tables.{frameAt, jobAt, jobsRead, readTable}
 use Rattle.plan.specs.Plans.{planBytes, readPlan, recordAt}
 use Rattle.judge.specs.Check.{jobOf, listed, lacksOne, checkPlan}
 use Rattle.frame.specs.declared.Reading.the-variants.{Fresh, Late}
 use Rattle.frame_promises.specs.History.{replies, reportOf, without}
-use Rattle.marked.specs.Marked.{either, stays, framed, E, planE, turned, one, upTo, marked, AllHold}
+use Rattle.marked.specs.Marked.{either, stays, stayFrom, framed, E, planE, turned, one, upTo, marked, AllHold}
 use Rattle.marked.proofs.Cases.{plan-case, none-case, given-case, least-case}
-use Rattle.marked.proofs.Replies.{read-case, lastOf, events-case}
+use Rattle.marked.proofs.Replies.{read-case, check-case, lastOf, events-case}
 use Rattle.marked.proofs.Examples.{eitherJob, jobTable, sent, kept, e1, e2, e3, chosenE, tableE, tableNo, n1, n2}
 
 abbrev and : {P Q : Type 0} → P → Q → P × Q
@@ -36,9 +34,19 @@ marked-hold =
     (and (none-case (framed 39 (either 1 50 10 10 ++ either 2 50 10 30)) (jobTable 39 (n1 ∷ n2 ∷ [])) refl refl)
     (and (plan-case tableNo (jobTable 1 []) refl [] refl)
     (and (least-case tableNo (jobTable 1 []) refl 0 (omega arith) [] refl (λ h. absurd (omega arith)))
-    (and (read-case [] (Short (place 0)) refl)
+    (and (read-case [] (1 ∷ 0 ∷ []) refl)
     (and (events-case E planE (upTo 45) 1 (Fresh (record { value = one; frame = 1 })) refl)
     (and (events-case E planE (upTo 46) 1 Late refl)
     (and (events-case E planE (upTo 47) 1 Late refl)
     (and (events-case E planE (upTo 4000) 1 Late refl)
-    tt))))))))))))))))
+    (and (read-case (0x20 ∷ []) (2 ∷ 0 ∷ []) refl)
+    (and (read-case (0x10 ∷ 0x00 ∷ 0x00 ∷ []) (3 ∷ 0 ∷ []) refl)
+    (and (read-case (framed 1 (stayFrom 0 33)) (4 ∷ 131 ∷ []) refl)
+    (and (read-case (framed 1 (stays 7 0 ++ stays 7 0)) (5 ∷ 7 ∷ []) refl)
+    (and (read-case (0x10 ∷ 0x01 ∷ 0x00 ∷ 0x1F ∷ 0x00 ∷ []) (6 ∷ 4 ∷ []) refl)
+    (and (check-case E (0x20 ∷ 0x09 ∷ 0x2F ∷ []) (8 ∷ []) refl)
+    (and (check-case E (0x21 ∷ 0x03 ∷ 0x2F ∷ []) (9 ∷ []) refl)
+    (and (check-case E (0x2F ∷ []) (10 ∷ []) refl)
+    (and (check-case E (0x20 ∷ 0x01 ∷ 0x20 ∷ 0x02 ∷ 0x20 ∷ 0x03 ∷ 0x2F ∷ []) (11 ∷ []) refl)
+    (and (check-case E planE (0 ∷ 45 ∷ 40 ∷ []) refl)
+    tt))))))))))))))))))))))))))

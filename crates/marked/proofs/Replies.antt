@@ -1,12 +1,11 @@
--- How a case about reading and about the frame runner is shown: what the reader's contract allows says its number, and what a sequence of calls
+-- How a case about reading, the check and the frame runner is shown: what the contract allows says its numbers, and what a sequence of calls
 -- is answered is the reply that its calls settle. Assumes nothing.
 use mathlib.Core.Path.{_≡_, refl, sym, ap, _∙_}
 use mathlib.Core.List.{List, [], _∷_, _++_, map, map-append}
 use Prim.Native.Nat.{ℕ}
-use Rattle.table.specs.declared.refusal.Refusal.{Refusal}
 use Rattle.table.specs.declared.TableRead.{TableRead}
-use Rattle.table.specs.Refusals.{refusalSays}
 use Rattle.table.specs.Tables.{readTable, tableRead, verdictSays}
+use Rattle.judge.specs.Check.{checkedSays, checkPlan}
 use Rattle.frame.specs.declared.Event.{Event}
 use Rattle.frame.specs.declared.Event.the-variants.{Read}
 use Rattle.frame.specs.declared.Reading.{Reading}
@@ -15,10 +14,13 @@ use Rattle.frame.specs.Run.{Call, begin, event}
 use Rattle.frame_promises.specs.History.{Turn, History, idle, done, replies}
 use Rattle.frame_promises.specs.Runs.{FromIdle}
 use Rattle.frame_promises.proofs.Replies.{replies-told}
-use Rattle.marked.specs.Marked.{Claimed, read-as, after-events}
+use Rattle.marked.specs.Marked.{Claimed, reads, checks, after-events}
 
-pub read-case : (s : List ℕ) (f : Refusal) → verdictSays (tableRead (readTable s) .verdict) ≡ refusalSays f → Claimed s (read-as f)
-read-case s f e r a = ap (λ (x : TableRead). verdictSays (x .verdict)) a ∙ e
+pub read-case : (s ns : List ℕ) → verdictSays (tableRead (readTable s) .verdict) ≡ ns → Claimed s (reads ns)
+read-case s ns e r a = ap (λ (x : TableRead). verdictSays (x .verdict)) a ∙ e
+
+pub check-case : (s p ns : List ℕ) → checkedSays (checkPlan s p) ≡ ns → Claimed s (checks p ns)
+check-case s p ns e r a = ap checkedSays a ∙ e
 
 -- what the last of some calls is answered
 unfoldable pub lastOf : Reply → List Reply → Reply

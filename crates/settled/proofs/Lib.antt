@@ -2,3 +2,4 @@ pub mod Functions
 pub mod Wrong
 pub mod Panel
 pub mod Weakened
+pub mod Callable

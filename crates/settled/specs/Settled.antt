@@ -29,3 +29,7 @@ module _ (T : Ended) where
   -- For the inputs i the contract rules the answer r out, whatever is left in lent memory.
   abbrev pub RulesOut : Tells → (κs : Lfts (T .signature .lifetimes)) → Args (T .signature) κs → Res (T .signature) κs → Type 0
   RulesOut Learnt κs i r = (m : Lasts T κs i) → ¬ (Learnt κs i r (atExit T κs i m))
+
+  -- Nothing is asked of a call: it may be made with every input of its parameters' types.
+  abbrev pub AsksNothing : Asks → Type 0
+  AsksNothing Pre = (κs : Lfts (T .signature .lifetimes)) (i : Args (T .signature) κs) → Pre κs i
