@@ -31,6 +31,7 @@ class Taken(Case):
 
     def test_standard_input(self):
         self.assertEqual(started('plan', '-', input=E.encode()), (0, E_LISTED, ''))
+        self.assertEqual(started('check', '-', '-', input=E.encode())[0], 2)
 
     def test_bytes_are_left_to_the_library(self):
         for content, line in ((b'', 'refused 1 at 0'), (b' \n', 'refused 1 at 0'), (b'\xff\xfe', 'refused 2 at 0'),
