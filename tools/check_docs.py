@@ -49,7 +49,8 @@ def check_functions(tree):
     """Each public function of a library, by crate, type and name."""
     public = [f for f in tree.functions if f.public and not f.program]
     crates = sorted({f.crate for f in public})
-    named = {name for crate in crates for name in re.findall(r'`([\w]+(?:::\w+)+)`', ''.join(rows(section(FUNCTIONS, crate), 0)))}
+    heads = [head for crate in crates for head in re.findall(r'^- ((?:`[\w:]+`[,\s]*)+)\.', section(FUNCTIONS, crate), re.M)]
+    named = {name for head in heads for name in re.findall(r'`([\w:]+)`', head)}
     compare(FUNCTIONS, {path_of(f) for f in public}, named)
     settled = text('crates/settled/proofs/Functions.antt')
     for f in public:
@@ -105,8 +106,8 @@ def check_wrong_answers(tree):
         if name not in wrong:
             troubles.append(f'{FUNCTIONS}: crate settled rules out no {name}')
     every = {d.name for d in tree.theorems}
-    for row in cells(text(FUNCTIONS)):
-        for name in re.findall(r'\(`([a-z][\w]*-[\w-]*)`', row[-1]) if len(row) == 4 else []:
+    for said in re.findall(r'Ruled\s+out:(.*?)(?=^- |^#|^\|)', text(FUNCTIONS), re.M | re.S):
+        for name in re.findall(r'\(`([a-z][\w]*-[\w-]*)`', said):
             if name not in every:
                 troubles.append(f'{FUNCTIONS}: no theorem is called {name}')
 

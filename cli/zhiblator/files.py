@@ -3,9 +3,16 @@ from .troubles import Trouble
 
 MOST_BYTES = 1 << 20
 
+# whether standard input has been taken for a file already
+taken = []
+
 
 def read(path):
-    """The bytes of a file; '-' is standard input."""
+    """The bytes of a file; '-' is standard input, which is one file."""
+    if path == '-':
+        if taken:
+            raise Trouble("'-' may stand once: standard input is one file")
+        taken.append(path)
     try:
         with open(0 if path == '-' else path, 'rb', closefd=path != '-') as file:
             data = file.read(MOST_BYTES + 1)

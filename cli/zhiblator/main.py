@@ -59,8 +59,6 @@ def run(words):
     if not hasattr(args, 'run'):
         said.print_help(sys.stderr)
         return USAGE
-    if getattr(args, 'table', None) == '-' and getattr(args, 'plan', None) == '-':
-        raise Trouble("table and plan cannot both be '-': standard input is one file")
     return args.run(args)
 
 

@@ -8,7 +8,7 @@ use mathlib.Core.List.{List, [], _∷_}
 use lib.ListN.{length}
 use Rattle.model.specs.declared.Job.{Job}
 use Rattle.model.specs.Lists.{All}
-use Rattle.model.specs.Timetable.{Chosen, Placed, Timetable, Met}
+use Rattle.model.specs.Timetable.{Chosen, Placed, Timetable}
 use Rattle.model.specs.FreeOrder.{LeastDeadline}
 use Rattle.model.specs.GivenOrder.{InOrder}
 use Rattle.model.proofs.Lists.{clash}

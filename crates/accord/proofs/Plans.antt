@@ -11,7 +11,7 @@ use Rattle.model.specs.declared.Job.{Job}
 use Rattle.model.specs.Lists.{All, greatest}
 use Rattle.model.specs.Timetable.{Chosen, Allowed, Placed, Timetable, span, finish, Meets}
 use Rattle.model.specs.FreeOrder.{Choice, laid, Fits, busy, spans, lastFrom}
-use Rattle.model.specs.GivenOrder.{InOrder, given, BestInOrder}
+use Rattle.model.specs.GivenOrder.{InOrder, given}
 use Rattle.model.proofs.Lists.{clash, all-all, pairwise-of-map, map-pairwise}
 use Rattle.model.proofs.Permutations.{all-perm, pairwise-perm, total-perm, length-perm}
 use Rattle.model.proofs.PlanOrder.{jobOf, jobs, perm-plan}

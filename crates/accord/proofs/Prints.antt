@@ -1,6 +1,6 @@
 -- The lister's text is that of the answer and the area that the free-order planner's own contract allows; and it allows one for every table and area.
 -- Assumes nothing.
-use Prim.Native.Nat.{ℕ, _≤_}
+use Prim.Native.Nat.{ℕ, _≤_, _<_}
 use native.Mathlib.Omega.{arith}
 use mathlib.Core.Path.{_≡_, refl, sym, ap, subst, _∙_}
 use mathlib.Core.Bool.{Bool, true, false}
@@ -76,6 +76,15 @@ module _ (s : List ℕ) (bytes : All Byte s) (before : List ℕ) (r : Planned) (
       go : Lists s buffer q out → (text : List ℕ) × TextOf s r after text × (listedSays q ≡ 0 ∷ length text ∷ []) × (out ≡ text ++ drop (length text) buffer)
       go (no-space short e left) = absurd (omega arith)
       go (text-written enough says area) = (textOf s, text-of free, says, area)
+
+-- Without room for the longest text it says 18 and leaves the buffer, whatever the table.
+pub prints-room : (s buffer : List ℕ) (q : Listed) (out : List ℕ) → ListAllows s buffer q out → length buffer < roomForText →
+    (listedSays q ≡ 18 ∷ []) × (out ≡ buffer)
+prints-room s buffer q out lists short = go lists
+  where
+    go : Lists s buffer q out → (listedSays q ≡ 18 ∷ []) × (out ≡ buffer)
+    go (no-space _ says left) = (says, left)
+    go (text-written enough says area) = absurd (omega arith)
 
 -- There is such an answer for every table and area.
 pub free-answers : (s before : List ℕ) → (r : Planned) × (after : List ℕ) × FreeAllows s before r after

@@ -2,13 +2,20 @@
 -- Assumes nothing.
 use Prim.Native.Nat.{ℕ}
 use mathlib.Core.List.{List, []}
+use contract.Lifetimes.{Lfts}
 use denote.Ref.{RefT}
+use denote.Triple.Entry.{Args, Res}
+use denote.Triple.Clauses.{Ended, AtExit}
 use Rattle.table.specs.declared.TableRead.{TableRead}
 use Rattle.table.proofs as table
 use Rattle.plan.specs.declared.PlanRead.{PlanRead}
 use Rattle.plan.proofs as plan
 use Rattle.judge.specs.declared.Checked.{Checked}
 use Rattle.judge.proofs as judge
+
+-- what a contract tells: of a call's inputs, its answer and its parameters at exit
+abbrev pub Tells : Ended → Type 1
+Tells T = (κs : Lfts (T .signature .lifetimes)) → Args (T .signature) κs → Res (T .signature) κs → AtExit T κs → Type 0
 
 -- a reference to this; where it lies, and for how long, no contract speaks of
 abbrev pub to : {A : Type 0} → A → RefT A

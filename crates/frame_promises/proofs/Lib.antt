@@ -11,5 +11,4 @@ pub mod Going
 pub mod Own
 pub mod Played
 pub mod Lent
-pub mod Examples
 pub mod Records

@@ -5,24 +5,22 @@ use native.Mathlib.Omega.{arith}
 use mathlib.Core.Path.{_≡_, refl, sym, _∙_, ap, subst}
 use mathlib.Core.Logic.{_⊎_, inl, inr}
 use mathlib.Core.Bool.{Bool, true, false, cond}
-use mathlib.Core.List.{List, [], _∷_, _++_, append-assoc, map, List·Memᴰ, List·Memᴰ·head, List·Memᴰ·tail, Memᴰ·of-map, List·Permᴰ, Permᴰ·symm, Permᴰ·map}
+use mathlib.Core.List.{List, [], _∷_, _++_, append-assoc, map, List·Memᴰ, List·Memᴰ·head, List·Memᴰ·tail, Memᴰ·of-map, Permᴰ·symm}
 use lib.ListN.{length, getD, length-map, List·getD-map}
-use lib.Dec.{leb}
 use Rattle.model.specs.declared.Job.{Job}
 use Rattle.model.specs.Lists.{All}
 use Rattle.model.specs.Timetable.{Chosen}
 use Rattle.model.specs.Positions.{noChoice}
-use Rattle.model.specs.FreeOrder.{Choice, busy, lastFrom}
+use Rattle.model.specs.FreeOrder.{busy, lastFrom}
 use Rattle.model.specs.Run.{Took, RunOf, OnTime}
 use Rattle.model.proofs.Lists.{clash, all-at}
 use Rattle.model.proofs.PlanOrder.{jobOf as theJob}
-use Rattle.table.specs.declared.refusal.Refusal.the-variants as R
 use Rattle.table.specs.Refusals.{Outcome, accepted}
 use Rattle.table.specs.Tables.{JobTable, readTable}
 use Rattle.table.proofs.Accepted.{accepted-good}
 use Rattle.table.proofs.Refusals.{says-not-zero}
 use Rattle.plan.specs.declared.Step.{Step}
-use Rattle.plan.specs.Plans.{stepId, noStep, readPlan, stepOf, stepsFor}
+use Rattle.plan.specs.Plans.{noStep, readPlan, stepOf, stepsFor}
 use Rattle.judge.specs.declared.Checked.{Checked}
 use Rattle.judge.specs.declared.Checked.the-variants as checked
 use Rattle.judge.specs.Check.{checkedSays, afterPlan, checkPlan}

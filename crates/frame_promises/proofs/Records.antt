@@ -1,6 +1,6 @@
 -- What a call leaves of a record, over the functions' own contracts: "No refusal .. alters the frame's record"; "every record reached by calls from
 -- idle is sound, and an unsound one answers PHASE to every call and stays as found". And that each function for one call is that call. Assumes nothing.
-use Prim.Native.Nat.{ℕ, _≤_}
+use Prim.Native.Nat.{_≤_}
 use mathlib.Core.Path.{_≡_, refl, sym, ap, _∙_, subst}
 use mathlib.Core.Logic.{_↔_}
 use mathlib.Core.Bool.{Bool, true, false}

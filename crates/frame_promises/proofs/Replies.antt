@@ -101,6 +101,3 @@ module _ (before : List Turn) (r : Reply) (after : List Turn) where
   pub reads-told :
       (id : ℕ) → FromIdle (before ++ (record { call = event (E.Read id); said = r } ∷ after)) → r ≡ reply (history idle before) (event (E.Read id))
   reads-told id = reply-told before (record { call = event (E.Read id); said = r }) after
-
-  pub nexts-told : FromIdle (before ++ (record { call = event E.Next; said = r } ∷ after)) → r ≡ reply (history idle before) (event E.Next)
-  nexts-told = reply-told before (record { call = event E.Next; said = r }) after

@@ -3,22 +3,15 @@
 use mathlib.Core.Path.{refl}
 use mathlib.Core.List.{List, []}
 use base.Logic.{emp}
-use contract.Lifetimes.{Lfts}
 use borrow.Fn.Claims.{AllOf}
 use borrow.Fn.Read.{Read, all-models, no-know, r-last}
-use denote.Triple.Entry.{Args, Res}
-use denote.Triple.Clauses.{Ended, AtExit}
-use Rattle.faults.specs.Allows.{to}
+use Rattle.faults.specs.Allows.{Tells, to}
 use Rattle.frame.specs.Run.{Call, begin, event}
 use Rattle.frame.specs.declared.Frame.{Frame}
 use Rattle.frame.specs.declared.Step.{Step}
 use Rattle.frame_lent.proofs as frame-lent
 use Rattle.frame_promises.specs.History.{Turn}
 use Rattle.frame_promises.specs.Runs.{Starts, Runs}
-
--- of a call's inputs, its answer and its parameters at exit
-abbrev Tells : Ended → Type 1
-Tells T = (κs : Lfts (T .signature .lifetimes)) → Args (T .signature) κs → Res (T .signature) κs → AtExit T κs → Type 0
 
 abbrev pub BeginIn : Tells frame-lent.begin_in.ended
 BeginIn κs i r e =

@@ -1,6 +1,5 @@
 -- "every sequence of calls from idle on one record that only the calls alter": each answer, with the record that goes to the next call, is one
 -- that the called function's own contract allows, as Rattle reads it of the source (`Reads.Learnt`). Assumes nothing.
-use Prim.Native.Nat.{ℕ}
 use mathlib.Core.Path.{_≡_}
 use mathlib.Core.Bool.{Bool}
 use mathlib.Core.List.{List, [], _∷_}

@@ -13,7 +13,6 @@ use Rattle.model.proofs.Lists.{clash}
 use Rattle.table.specs.declared.refusal.Refusal.the-variants.{None}
 use Rattle.table.proofs.Refusals.{says-not-zero}
 use Rattle.plan.specs.Plans.{planBytes}
-use Rattle.planner.specs.Answers.{FreeAnswer}
 use Rattle.marked.specs.Marked.{E, marked, AllHold}
 use Rattle.accord.specs.Allows.{FreeAllows}
 use Rattle.marked.specs.Versions.{Planner, Plans, GoesBy, SoonerOnly, ShortestFirst, LastColumn}

@@ -11,8 +11,7 @@ use Rattle.frame.specs.declared.Event.the-variants.{Read}
 use Rattle.frame.specs.declared.Reading.{Reading}
 use Rattle.frame.specs.Step.{Reply, readingSays}
 use Rattle.frame.specs.Run.{Call, begin, event}
-use Rattle.frame_promises.specs.History.{Turn, History, idle, done, replies}
-use Rattle.frame_promises.specs.Runs.{FromIdle}
+use Rattle.frame_promises.specs.History.{Turn, idle, done, replies}
 use Rattle.frame_promises.proofs.Replies.{replies-told}
 use Rattle.marked.specs.Marked.{Claimed, reads, checks, after-events}
 

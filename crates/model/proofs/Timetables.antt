@@ -93,10 +93,6 @@ pub laid-apart : (t : ℕ) (cs : List Chosen) → Pairwise Apart (laid t cs)
 laid-apart t [] = tt
 laid-apart t (c ∷ cs) = (all-map (λ p k. inl k) (laid (t + span c) cs) (laid-from (t + span c) (t + span c) cs (omega arith)), laid-apart (t + span c) cs)
 
-pub laid-meets : (D t : ℕ) (cs : List Chosen) → Fits D t cs → Meets D (laid t cs)
-laid-meets D t [] h = tt
-laid-meets D t (c ∷ cs) h = (h .0, laid-meets D (t + span c) cs (h .1))
-
 -- The plan of a choice is a timetable: the placements of its jobs back to back, put in table order.
 pub record PlanTimetable (js : List Job) (cs : List Chosen) (ps : List Placed) : Type 0 where
   pub timetable : Timetable js ps

@@ -204,10 +204,14 @@ replay κs i r s m n p q = (p ∙ sym q, refl)
 -- ---- panel
 
 pub zb-plan-free : Settles panel.zb_plan_free.ended panel.zb_plan_free.Reads.Learnt
-zb-plan-free κs i r s m n p q = let same = planner.Settled.free-settled _ _ (p .0) (m .1 .0) (q .0) (n .1 .0) (p .1) (q .1) in (p .2 ∙ (ap plannedNumbers (same .0) ∙ sym (q .2)), λ k. (tt, (same .1 k, tt)))
+zb-plan-free κs i r s m n p q =
+    let same = planner.Settled.free-settled _ _ (p .0) (m .1 .0) (q .0) (n .1 .0) (p .1) (q .1) in
+    (p .2 ∙ (ap plannedNumbers (same .0) ∙ sym (q .2)), λ k. (tt, (same .1 k, tt)))
 
 pub zb-plan-given : Settles panel.zb_plan_given.ended panel.zb_plan_given.Reads.Learnt
-zb-plan-given κs i r s m n p q = let same = planner.Settled.given-settled _ _ (p .0) (m .1 .0) (q .0) (n .1 .0) (p .1) (q .1) in (p .2 ∙ (ap plannedNumbers (same .0) ∙ sym (q .2)), λ k. (tt, (same .1 k, tt)))
+zb-plan-given κs i r s m n p q =
+    let same = planner.Settled.given-settled _ _ (p .0) (m .1 .0) (q .0) (n .1 .0) (p .1) (q .1) in
+    (p .2 ∙ (ap plannedNumbers (same .0) ∙ sym (q .2)), λ k. (tt, (same .1 k, tt)))
 
 pub zb-least-deadline : Settles panel.zb_least_deadline.ended panel.zb_least_deadline.Reads.Learnt
 zb-least-deadline κs i r s m n p q = (p .2 ∙ (ap leastNumbers (planner.Settled.least-settled _ (p .0) (q .0) (p .1) (q .1)) ∙ sym (q .2)), refl)

@@ -1,6 +1,6 @@
 -- Answers that the contracts of the C functions rule out: figures exchanged, a refusal that reads as accepted, a place lost, another deadline.
 -- Shown of Table E, of no bytes at all, and of a table with a wrong kind at byte 3. Assumes nothing.
-use mathlib.Core.Path.{_≡_, refl, sym, ap, _∙_}
+use mathlib.Core.Path.{_≡_, refl, ap, _∙_}
 use mathlib.Core.List.{List, [], _∷_}
 use Prim.Native.Nat.{ℕ}
 use native.Mathlib.Omega.{arith}
@@ -14,7 +14,6 @@ use Rattle.planner.specs.declared.Planned.{Planned}
 use Rattle.planner.specs.declared.Least.{Least}
 use Rattle.planner.specs.Answers as A
 use Rattle.planner.specs.Answers.{PlanAnswer, plannedSays, leastSays}
-use Rattle.judge.specs.Check.{checkPlan}
 use Rattle.faults.specs.Allows.{to}
 use Rattle.panel.specs.declared.PlannedNumbers.{PlannedNumbers}
 use Rattle.panel.specs.declared.LeastNumbers.{LeastNumbers}

@@ -2,26 +2,25 @@
 -- does not say which record is left. Functions.antt goes by the contracts' own text, so such an `ensures` would fail there. Assumes nothing.
 use mathlib.Core.Path.{_≡_, refl, ap}
 use mathlib.Core.Logic.{_⊎_, inl, inr}
-use mathlib.Core.List.{List, []}
+use mathlib.Core.List.{[]}
 use Prim.Native.Nat.{ℕ}
 use native.Mathlib.Omega.{arith}
 use denote.Triple.Clauses.{Lasts, atExit}
 use Rattle.model.proofs.Lists.{clash}
-use Rattle.table.specs.Records.{judged, formOf}
+use Rattle.table.specs.Records.{judged}
 use Rattle.table.specs.Tables.{readTable, frameAt}
 use Rattle.table.specs.declared.refusal.Refusal.the-variants.{Late, Phase}
-use Rattle.judge.specs.declared.Checked.{Checked}
 use Rattle.judge.specs.declared.Checked.the-variants.{Fails}
 use Rattle.judge.specs.Check.{checkPlan}
 use Rattle.judge.proofs as judge
-use Rattle.faults.specs.Allows.{to}
+use Rattle.faults.specs.Allows.{Tells, to}
 use Rattle.frame.specs.declared.Frame.{Frame}
 use Rattle.frame.specs.declared.Answer.the-variants.{Refused}
 use Rattle.frame.specs.declared.Event.the-variants.{Next}
 use Rattle.frame.specs.Sound.{sound?, open?}
 use Rattle.frame.specs.Step.{idle, nextOf}
 use Rattle.frame_lent.proofs as frame-lent
-use Rattle.settled.specs.Settled.{Tells, Settles}
+use Rattle.settled.specs.Settled.{Settles}
 use Rattle.frame_promises.specs.Lent.{CallIn}
 
 -- the check, with LATE allowed for all

@@ -41,7 +41,9 @@ put-made-requires c κs =
     let w = read-whole _ _ (read .ensures) (c .before .before .enum-told .given .1) in
     let n = read-counted _ _ (read .ensures) (c .before .before .enum-told .given .1) in
     let e = made-text (now (s .args .table)) _ w n _ (c .free-plan .ensures) in
-    (free-few _ (w .sound) _ (c .free-plan .ensures), w .sound .few, omega (arith, ap length e, text-short (now (s .args .table)) (λ i. omega (arith, c .before .before .before .before .before .before .before .before .shared-slice-known .given i))))
+    let known = c .before .before .before .before .before .before .before .before .shared-slice-known in
+    let short = text-short (now (s .args .table)) (λ i. omega (arith, known .given i)) in
+    (free-few _ (w .sound) _ (c .free-plan .ensures), w .sound .few, omega (arith, ap length e, short))
 
 same-length : tie.Need-same-length
 same-length c = search needs
@@ -49,8 +51,10 @@ same-length c = search needs
 returns-2 : tie.Need-returns-2
 returns-2 c =
     let s = c .before .before .before .before .before .before .before .before .before .before .before .before in
+    let read = c .before .before .before .before .before .before .before .before .read-table in
+    let verdict = c .before .before .before .before .before .verdict in
     lists-text (now (s .args .table)) (now (s .args .out)) _ _ _ (c .before .before .before .before .before .before .before .before .before .if1 .left)
-    (refused-text (now (s .args .table)) _ (read-refused _ _ (c .before .before .before .before .before .before .before .before .read-table .ensures) _ (c .before .before .before .before .before .verdict .given .1))) (c .before .before .put-refused .ensures)
+    (refused-text (now (s .args .table)) _ (read-refused _ _ (read .ensures) _ (verdict .given .1))) (c .before .before .put-refused .ensures)
 
 same-length-2 : tie.Need-same-length-2
 same-length-2 c = search needs

@@ -24,7 +24,9 @@ returns : tie.Need-returns
 returns c = (c .before .before .before .least-deadline .result, c .before .before .before .least-deadline .ensures, rw (c .before .d .given .1) refl)
 
 returns-2 : tie.Need-returns-2
-returns-2 c = (c .before .before .before .before .least-deadline .result, c .before .before .before .before .least-deadline .ensures, least-refused _ _ (c .numbers-of .ensures) _ (c .before .before .f .given .1))
+returns-2 c =
+    let called = c .before .before .before .before .least-deadline in
+    (called .result, called .ensures, least-refused _ _ (c .numbers-of .ensures) _ (c .before .before .f .given .1))
 
 pub zb-least-deadline-spec : {M : Type 1} → statement M
 zb-least-deadline-spec =
