@@ -5,7 +5,7 @@ use mathlib.Core.List.{List, [], _∷_, _++_}
 use Prim.Native.Nat.{ℕ}
 use Rattle.table.specs.Records.{formOf, judged, used, listFrom}
 use Rattle.table.specs.Tables.{frameAt, jobAt, jobsRead, readTable}
-use Rattle.text.specs.Decimals.{digitsIn, decimal}
+use Rattle.bytes.specs.Decimals.{digitsIn, decimal}
 use Rattle.listing.specs.Listing.{jobLine, pairLine, jobLines, planText, refusedText, textOf}
 
 -- table E's jobs and end record

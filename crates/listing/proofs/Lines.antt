@@ -15,9 +15,9 @@ use Rattle.model.specs.FreeOrder.{laid}
 use Rattle.model.specs.Laying.{chosen}
 use Rattle.plan.specs.declared.Step.{Step}
 use Rattle.plan.specs.Plans.{noStep}
-use Rattle.text.specs.Writing.{Wrote, written}
-use Rattle.text.specs.Decimals.{decimal}
-use Rattle.text.proofs.Writing.{written-length, written-append, written-nil, then}
+use Rattle.bytes.specs.Writing.{Wrote, written}
+use Rattle.bytes.specs.Decimals.{decimal}
+use Rattle.bytes.proofs.Writing.{written-length, written-append, written-nil, then}
 use Rattle.listing.specs.Listing.{space, newline, choiceWord, jobLine, pairLine, jobLines, refusedWord, atWord, refusedText}
 use Rattle.table.specs.declared.refusal.Said.{Said}
 use Rattle.table.specs.Refusals.{saidBy}

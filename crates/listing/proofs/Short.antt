@@ -23,8 +23,8 @@ use Rattle.table.specs.Refusals.{refusalSays, Outcome, accepted, refused}
 use Rattle.table.specs.Tables.{JobTable, readTable}
 use Rattle.table.proofs.Accepted.{accepted-good}
 use Rattle.planner.proofs.Orders.{free-many}
-use Rattle.text.specs.Decimals.{decimal}
-use Rattle.text.proofs.Decimals.{few-digits}
+use Rattle.bytes.specs.Decimals.{decimal}
+use Rattle.bytes.proofs.Decimals.{few-digits}
 use Rattle.listing.specs.Listing.{frameWord, jobsWord, busyWord, lastWord, choiceWord, jobLine, pairLine, jobLines, planText, refusedText, foundText}
 use Rattle.listing.specs.Listing.{outcomeText, textOf, roomForText}
 use Rattle.faults.specs.Faults.{Byte}

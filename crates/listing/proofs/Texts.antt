@@ -27,8 +27,8 @@ use Rattle.plan.proofs.Steps.{steps-of-plan}
 use Rattle.draft.specs.declared.Drafted.{Drafted}
 use Rattle.draft.specs.Drafts.{draftOf, draftedOf}
 use Rattle.table.proofs.Reading.{WholeRead}
-use Rattle.text.specs.Writing.{Wrote}
-use Rattle.text.proofs.Writing.{written-front}
+use Rattle.bytes.specs.Writing.{Wrote}
+use Rattle.bytes.proofs.Writing.{written-front}
 use Rattle.listing.specs.declared.Listed.{Listed}
 use Rattle.listing.specs.declared.Listed.the-variants.{Text, NoRoom}
 use Rattle.listing.specs.Listing.{firstLine, jobLines, lastLine, planText, refusedText, foundText, outcomeText, textOf, roomForText, listedSays, Lists, no-room, text-written}

@@ -13,7 +13,7 @@ use Rattle.table.specs.declared.refusal.Refusal.the-variants.{None, Room}
 use Rattle.table.specs.Limits.{mostJobs}
 use Rattle.table.specs.Refusals.{refusalSays, Outcome, accepted, refused}
 use Rattle.table.specs.Tables.{JobTable, readTable}
-use Rattle.text.specs.Decimals.{decimal}
+use Rattle.bytes.specs.Decimals.{decimal}
 use Rattle.listing.specs.declared.Listed.{Listed}
 use Rattle.listing.specs.declared.Listed.the-variants.{Text, NoRoom}
 

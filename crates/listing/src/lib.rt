@@ -18,8 +18,8 @@ ghost use Rattle.table.specs.Limits.{mostJobs};
 ghost use Rattle.table.specs.Refusals.{refusalSays};
 ghost use Rattle.table.specs.Tables.{jobTable};
 ghost use Rattle.plan.specs.Plans.{stepsOf};
-ghost use Rattle.text.specs.Decimals.{decimal};
-ghost use Rattle.text.specs.Writing.{Wrote};
+ghost use Rattle.bytes.specs.Decimals.{decimal};
+ghost use Rattle.bytes.specs.Writing.{Wrote};
 ghost use Rattle.listing.specs.Found.{jobWith, chosenFor, placed, draftText, madeText};
 ghost use Rattle.listing.specs.Listing.{choiceWord, jobLine, pairLine, jobLines, refusedText, Lists};
 
@@ -34,8 +34,8 @@ fn put_field(out: &mut [u8], at: usize, word: &[u8], n: usize) -> usize
     requires { ⌜ at + length (now word ++ decimal n) ≤ length (now out) ⌝ }
     ensures { λ r. ⌜ Wrote (now (out .entry)) at (now (word .entry) ++ decimal n) (now (out .exit)) r ⌝ }
 {
-    let end = text::put(out, at, word);
-    text::put_number(out, end, n)
+    let end = bytes::put(out, at, word);
+    bytes::put_number(out, end, n)
 }
 
 // A line of two numbers, each behind its word.
@@ -45,7 +45,7 @@ fn put_pair(out: &mut [u8], at: usize, first: &[u8], a: usize, second: &[u8], b:
 {
     let middle = put_field(out, at, first, a);
     let end = put_field(out, middle, second, b);
-    text::put(out, end, b"\n")
+    bytes::put(out, end, b"\n")
 }
 
 // A job's choice and its start.
@@ -67,7 +67,7 @@ fn put_job_line(out: &mut [u8], at: usize, job: Job, away: bool, start: usize) -
 {
     let end = start + model::span_of(job, away) as usize;
     let finish = end + model::wait_of(job, away) as usize;
-    let a = text::put_number(out, at, job.id as usize);
+    let a = bytes::put_number(out, at, job.id as usize);
     let b = put_start(out, a, away, start);
     put_pair(out, b, b" ", end, b" ", finish)
 }
@@ -142,7 +142,7 @@ fn put_refused(out: &mut [u8], f: Refusal) -> usize
         return put_pair(out, 0, b"refused ", said.number, b" at ", said.place);
     }
     let end = put_field(out, 0, b"refused ", said.number);
-    text::put(out, end, b"\n")
+    bytes::put(out, end, b"\n")
 }
 
 // The plan that was found, or NONE.

@@ -10,7 +10,7 @@ ghost use mathlib.Core.List.{[], _++_};
 ghost use Prim.Native.Nat.{_+_, _<_, _≤_};
 ghost use lib.ListN.{length, drop};
 ghost use Rattle.table.specs.Limits.{mostJobs, longestPlan};
-ghost use Rattle.text.specs.Writing.{Wrote};
+ghost use Rattle.bytes.specs.Writing.{Wrote};
 ghost use Rattle.plan.specs.Plans.{listedAt, recordAt, refusalOf, endedAt, readPlan, planRead, stepBytes, planBytes, stepAt, planOf, withStep, stepsOf};
 
 // One line of a plan: the job with this id, sent away or run here.
@@ -170,7 +170,7 @@ fn put_step(area: &mut [u8], at: usize, step: Step) -> usize
 {
     let kind = if step.away { 0x21 } else { 0x20 };
     let record = [kind, step.id];
-    text::put(area, at, &record)
+    bytes::put(area, at, &record)
 }
 
 // Writes the plan at the front of the area, leaves the rest, and returns how many bytes it wrote.
@@ -185,5 +185,5 @@ pub fn write_plan(area: &mut [u8], plan: Plan) -> usize
         at = put_step(area, at, plan.steps[i]);
         i += 1;
     }
-    text::put(area, at, b"\x2F")
+    bytes::put(area, at, b"\x2F")
 }

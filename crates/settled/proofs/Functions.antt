@@ -8,7 +8,7 @@ use Rattle.model.specs.Recurrence.{bestBelow}
 use Rattle.model.proofs as model
 use Rattle.table.proofs as table
 use Rattle.table.specs.Limits.{largestTime}
-use Rattle.text.proofs as text
+use Rattle.bytes.proofs as bytes
 use Rattle.plan.proofs as plan
 use Rattle.order.proofs as order
 use Rattle.rows.proofs as rows
@@ -67,10 +67,10 @@ read-table κs i r s m n p q = (p ∙ sym q, refl)
 
 -- ---- text
 
-pub put : Settles text.put.ended text.put.Reads.Learnt
+pub put : Settles bytes.put.ended bytes.put.Reads.Learnt
 put κs i r s m n p q = (p .place ∙ sym (q .place), λ k. ((p .area ∙ sym (q .area)) k, m .1))
 
-pub put-number : Settles text.put_number.ended text.put_number.Reads.Learnt
+pub put-number : Settles bytes.put_number.ended bytes.put_number.Reads.Learnt
 put-number κs i r s m n p q = (p .place ∙ sym (q .place), λ k. ((p .area ∙ sym (q .area)) k, m .1))
 
 -- ---- plan

@@ -1,7 +1,7 @@
 -- `listing::put_field` meets its contract: the word, and the number behind it. Assumes nothing.
 use denote.Ref.{now}
 use borrow.Author.Needs.{needs}
-use Rattle.text.specs.Decimals.{decimal}
+use Rattle.bytes.specs.Decimals.{decimal}
 use Rattle.listing.proofs.Lines.{room-first, room-next, both}
 use Rattle.listing.proofs.put_field.Statement.{statement}
 use Rattle.listing.proofs.put_field.Tie as tie

@@ -7,7 +7,7 @@ use denote.Ref.{now}
 use lib.ListN.{length}
 use borrow.Author.Needs.{needs}
 use Rattle.model.specs.Timetable.{Placed, span, spanEnd, wait, finish}
-use Rattle.text.specs.Decimals.{decimal}
+use Rattle.bytes.specs.Decimals.{decimal}
 use Rattle.listing.specs.Listing.{choiceWord, space, pairLine}
 use Rattle.listing.specs.Found.{placed}
 use Rattle.listing.proofs.Lines.{room-first, room-next, both, job-parts}

@@ -4,7 +4,7 @@ use Prim.Native.Nat.{ℕ, _+_, _≤_}
 use denote.Ref.{now}
 use lib.ListN.{length}
 use borrow.Author.Needs.{needs}
-use Rattle.text.specs.Decimals.{decimal}
+use Rattle.bytes.specs.Decimals.{decimal}
 use Rattle.listing.specs.Listing.{newline}
 use Rattle.listing.proofs.Lines.{room-first, room-next, both, pair-parts}
 use Rattle.listing.proofs.put_pair.Statement.{statement}

@@ -7,7 +7,7 @@ use native.Mathlib.Omega.{arith}
 use denote.Ref.{now}
 use lib.ListN.{length}
 use Rattle.table.specs.Refusals.{refusalSays, saidBy}
-use Rattle.text.specs.Decimals.{decimal}
+use Rattle.bytes.specs.Decimals.{decimal}
 use Rattle.table.specs.declared.refusal.Said.{Said}
 use Rattle.listing.specs.Listing.{refusedWord, newline}
 use Rattle.listing.proofs.Lines.{room-first, room-next, both, refused-placed, refused-bare}

@@ -8,8 +8,8 @@ use denote.Ref.{now}
 use lib.ListN.{length, drop, length-map}
 use lib.Seq.{getD-take, length-take-le}
 use borrow.Author.Needs.{needs}
-use Rattle.text.specs.Writing.{written}
-use Rattle.text.proofs.Writing.{written-append, written-front}
+use Rattle.bytes.specs.Writing.{written}
+use Rattle.bytes.proofs.Writing.{written-append, written-front}
 use Rattle.plan.specs.declared.Step.{Step}
 use Rattle.plan.specs.Plans.{planBytes, stepsOf, noStep}
 use Rattle.plan.proofs.Steps.{plan-length, bytes-more, bytes-done}

@@ -1,4 +1,4 @@
--- `text::put` meets its contract. The invariant: what is still to write, written where it belongs, gives the whole word written.
+-- `bytes::put` meets its contract. The invariant: what is still to write, written where it belongs, gives the whole word written.
 -- The measure is what is left of the word. Assumes nothing.
 use Prim.Native.Nat.{ℕ, _≤_, _-_, _+_}
 use native.Mathlib.Nat.{add-zero}
@@ -8,10 +8,10 @@ use mathlib.Core.List.{List}
 use denote.Ref.{now}
 use lib.ListN.{length, drop, length-set, drop-of-length-le}
 use borrow.Author.Needs.{needs}
-use Rattle.text.specs.Writing.{written}
-use Rattle.text.proofs.Writing.{written-more, written-nil}
-use Rattle.text.proofs.put.Statement.{statement}
-use Rattle.text.proofs.put.Tie as tie
+use Rattle.bytes.specs.Writing.{written}
+use Rattle.bytes.proofs.Writing.{written-more, written-nil}
+use Rattle.bytes.proofs.put.Statement.{statement}
+use Rattle.bytes.proofs.put.Tie as tie
 
 -- what `put` keeps
 record SoFar (out₀ : List ℕ) (at : ℕ) (word out : List ℕ) (i : ℕ) : Type 0 where

@@ -8,7 +8,7 @@ use lib.Seq.{length-take-le, take-at, drop-at, drop-drop, set-split, drop-cons}
 use native.Mathlib.Numerals.{add-one}
 use native.Mathlib.Nat.{add-assoc, add-zero, zero-add}
 use native.Mathlib.Omega.{arith}
-use Rattle.text.specs.Writing.{written, Wrote}
+use Rattle.bytes.specs.Writing.{written, Wrote}
 
 pub written-length : (out : List ℕ) (at : ℕ) (w : List ℕ) → at + length w ≤ length out → length (written out at w) ≡ length out
 unfolding written

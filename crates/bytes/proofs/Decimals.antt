@@ -8,7 +8,7 @@ use lib.ListN.{length, getD, length-append}
 use lib.Dec.{ltb}
 use borrow.Author.Tests.{lt-ltb, le-ltb, ltb-true, ltb-false}
 use native.Mathlib.Omega.{arith}
-use Rattle.text.specs.Decimals.{digitsIn, decimal, numberFrom, numberIn, Digits}
+use Rattle.bytes.specs.Decimals.{digitsIn, decimal, numberFrom, numberIn, Digits}
 
 -- how many digits there may be does not matter, where it is above the number
 enough : (f g n : ℕ) → n < f → n < g → digitsIn f n ≡ digitsIn g n

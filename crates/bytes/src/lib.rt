@@ -2,8 +2,8 @@
 // What is written is told by `Wrote` of specs/Writing.antt, and the rest of the area is left.
 ghost use Prim.Native.Nat.{_+_, _≤_};
 ghost use lib.ListN.{length};
-ghost use Rattle.text.specs.Writing.{Wrote};
-ghost use Rattle.text.specs.Decimals.{decimal};
+ghost use Rattle.bytes.specs.Writing.{Wrote};
+ghost use Rattle.bytes.specs.Decimals.{decimal};
 
 // Writes `word` at a place of `out`, and returns the place after it.
 pub fn put(out: &mut [u8], at: usize, word: &[u8]) -> usize

@@ -1,4 +1,4 @@
--- `text::put_number` meets its contract, by the laws of `decimal`: one digit, or the digits of the tens and one digit more.
+-- `bytes::put_number` meets its contract, by the laws of `decimal`: one digit, or the digits of the tens and one digit more.
 -- The measure is the number. Assumes nothing.
 use Prim.Native.Nat.{ℕ, _+_, _/_, _%_, _<_}
 use native.Mathlib.Omega.{arith}
@@ -9,15 +9,15 @@ use lib.ListN.{length}
 use borrow.Author.Needs.{needs}
 use borrow.Fn.Kinds.{In}
 use borrow.Fn.PlainCycle.{Measures, is, falls, and}
-use Rattle.text.specs.Writing.{written}
-use Rattle.text.specs.Decimals.{decimal}
-use Rattle.text.proofs.Writing.{written-append, set-written, written-length}
-use Rattle.text.proofs.Decimals.{decimal-small, decimal-large, small-length, large-length}
-use Rattle.text.proofs.put_number.Reads as put-number
-use Rattle.text.proofs.put_number.Kinds as put-number-kinds
-use Rattle.text.proofs.+put_number.Lts-put_number as put-number-lts
-use Rattle.text.proofs.+put_number.{statement}
-use Rattle.text.proofs.+put_number.Tie.{close}
+use Rattle.bytes.specs.Writing.{written}
+use Rattle.bytes.specs.Decimals.{decimal}
+use Rattle.bytes.proofs.Writing.{written-append, set-written, written-length}
+use Rattle.bytes.proofs.Decimals.{decimal-small, decimal-large, small-length, large-length}
+use Rattle.bytes.proofs.put_number.Reads as put-number
+use Rattle.bytes.proofs.put_number.Kinds as put-number-kinds
+use Rattle.bytes.proofs.+put_number.Lts-put_number as put-number-lts
+use Rattle.bytes.proofs.+put_number.{statement}
+use Rattle.bytes.proofs.+put_number.Tie.{close}
 
 abbrev μ-put-number : Measures 1 put-number-kinds.ps ℕ
 μ-put-number κs a = a .1 .1 .0
