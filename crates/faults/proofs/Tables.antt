@@ -13,7 +13,7 @@ use Rattle.model.specs.declared.Sending.{Sending}
 use Rattle.model.specs.declared.Sending.the-variants.{HereOnly, Either}
 use Rattle.model.specs.declared.Job.{Job}
 use Rattle.model.specs.Lists.{All}
-use Rattle.model.proofs.Lists.{clash}
+use Rattle.model.proofs.Lists.{clash, member-all}
 use Rattle.table.specs.declared.refusal.Refusal.{Refusal}
 use Rattle.table.specs.declared.refusal.Refusal.the-variants.{Range, Many}
 use Rattle.table.specs.declared.kind.RowKind.{RowKind}
@@ -30,7 +30,6 @@ use Rattle.table.proofs.Records.{rowByte, form-all, frame-form, opened}
 use Rattle.table.proofs.Tables.{both, rowEntry}
 use Rattle.table.proofs.Written.{word-parts, jobs-flat}
 use Rattle.table.proofs.ReadBack.{word, row-open, job-back, end-back, word-whole, bytes-read}
-use Rattle.judge.proofs.Jobs.{member-all}
 use Rattle.faults.specs.Faults.{Byte, frameKinds, rowKinds, Unread, ListFault, fault, GoodList, DeadlineOk, frameBytes, TableFault, in-frame, deadline}
 use Rattle.faults.specs.Faults.{in-row, TableIs}
 use Rattle.faults.proofs.Files.{Whole, unread-or-whole, listed-or-fault, unread-refused, fault-refused, exactly, exactly-one}

@@ -20,11 +20,12 @@ use Rattle.model.proofs.PlanOrder.{jobOf as theJob}
 use Rattle.table.specs.Refusals.{Outcome, accepted, refused}
 use Rattle.table.specs.Tables.{JobTable, GoodTable}
 use Rattle.table.specs.declared.refusal.Refusal.the-variants.{Left}
+use Rattle.lookup.specs.Lookup.{jobOf, withId}
 use Rattle.plan.specs.declared.Step as plan
 use Rattle.plan.specs.Plans.{stepId, noStep, stepAt, readPlan, stepOf}
 use Rattle.plan.proofs.Plans.{accepted-plan, step-at}
 use Rattle.judge.specs.declared.Checked.the-variants.{Passes, Fails}
-use Rattle.judge.specs.Check.{jobOf, listed, lacksOne, timed, afterListed, afterPlan}
+use Rattle.judge.specs.Check.{listed, lacksOne, timed, afterListed, afterPlan}
 use Rattle.judge.proofs.Jobs.{Lists, listed-tells, all-or-left}
 use Rattle.frame.specs.Begin.{stepsIn}
 
@@ -55,7 +56,7 @@ pub record JobFor (js : List Job) (id : ℕ) : Type 0 where
   pub same-id : (getD js at noJob) .id ≡ id
 
 job-for : (js : List Job) (id : ℕ) (j : Job) → jobOf js id ≡ some j → JobFor js id
-unfolding jobOf
+unfolding withId
 job-for [] id j e = clash (cc)
 job-for (x ∷ js) id j e = step (eqb (x .id) id) refl e (job-for js id j)
   where

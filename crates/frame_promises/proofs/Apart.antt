@@ -13,9 +13,9 @@ use Rattle.model.specs.declared.Job.{Job}
 use Rattle.table.specs.Refusals as outcome
 use Rattle.table.specs.Refusals.{Outcome, accepted}
 use Rattle.table.specs.Tables.{JobTable, readTable}
+use Rattle.lookup.specs.Lookup.{jobOf}
 use Rattle.plan.specs.declared.Step as plan
 use Rattle.plan.specs.Plans.{stepId, readPlan}
-use Rattle.judge.specs.Check.{jobOf}
 use Rattle.frame.specs.Finite.{finite?}
 use Rattle.frame.specs.Step.{Reply, says}
 use Rattle.frame.specs.Run.{Call, begin, event}

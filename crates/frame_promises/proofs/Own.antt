@@ -13,7 +13,7 @@ use Rattle.model.specs.Timetable.{Chosen}
 use Rattle.model.specs.Positions.{noChoice}
 use Rattle.model.specs.FreeOrder.{busy, lastFrom}
 use Rattle.model.specs.Run.{Took, RunOf, OnTime}
-use Rattle.model.proofs.Lists.{clash, all-at}
+use Rattle.model.proofs.Lists.{clash, all-at, member-all}
 use Rattle.model.proofs.PlanOrder.{jobOf as theJob}
 use Rattle.table.specs.Refusals.{Outcome, accepted}
 use Rattle.table.specs.Tables.{JobTable, readTable}
@@ -24,7 +24,7 @@ use Rattle.plan.specs.Plans.{noStep, readPlan, stepOf, stepsFor}
 use Rattle.judge.specs.declared.Checked.{Checked}
 use Rattle.judge.specs.declared.Checked.the-variants as checked
 use Rattle.judge.specs.Check.{checkedSays, afterPlan, checkPlan}
-use Rattle.judge.proofs.Jobs.{member-all, perm-members}
+use Rattle.judge.proofs.Jobs.{perm-members}
 use Rattle.faults.proofs.Tables.{table-read}
 use Rattle.faults.proofs.Plans.{plan-read}
 use Rattle.faults.proofs.Says.{pass-iff-runs, pass-or-late}

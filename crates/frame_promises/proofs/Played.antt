@@ -13,9 +13,9 @@ use borrow.Author.Tests.{leb-true, leb-false, ltb-true, ltb-false}
 use lib.ListN.{length}
 use lib.Dec.{leb, ltb}
 use Rattle.model.specs.Lists.{All, Pairwise}
-use Rattle.model.proofs.Lists.{clash, all-map, all-zip}
+use Rattle.model.proofs.Lists.{clash, all-map, all-zip, member-all}
 use Rattle.model.proofs.Permutations.{all-perm, pairwise-perm, length-perm}
-use Rattle.judge.proofs.Jobs.{member-all, perm-members}
+use Rattle.judge.proofs.Jobs.{perm-members}
 use Rattle.frame.specs.Step.{Reply, answerSays}
 use Rattle.frame.specs.Run.{Call, begin, event, stepOf}
 use Rattle.frame.specs.declared.Frame.{Frame}

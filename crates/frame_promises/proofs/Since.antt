@@ -11,7 +11,7 @@ use borrow.Author.Tests.{eqb-true, eqb-false}
 use lib.Dec.{ltb, eqb}
 use lib.Ieee.{Float}
 use Rattle.model.specs.Lists.{All, Pairwise}
-use Rattle.model.proofs.Lists.{clash, all-append}
+use Rattle.model.proofs.Lists.{clash, all-append, member-all}
 use Rattle.table.specs.Records.{used}
 use Rattle.table.specs.declared.refusal.Refusal.{Refusal}
 use Rattle.table.specs.Refusals as outcome
@@ -21,7 +21,7 @@ use Rattle.plan.specs.declared.Step as plan
 use Rattle.plan.specs.Plans.{stepId, readPlan}
 use Rattle.plan.proofs.Plans.{accepted-plan}
 use Rattle.judge.specs.Check.{afterPlan, afterTable, checkPlan}
-use Rattle.judge.proofs.Jobs.{member-all, perm-members}
+use Rattle.judge.proofs.Jobs.{perm-members}
 use Rattle.frame.specs.Step.{Reply, says}
 use Rattle.frame.specs.Run.{Call, begin, event}
 use Rattle.frame.specs.declared.Event.{Event}

@@ -9,6 +9,7 @@ use Rattle.model.proofs as model
 use Rattle.table.proofs as table
 use Rattle.table.specs.Limits.{largestTime}
 use Rattle.bytes.proofs as bytes
+use Rattle.lookup.proofs as lookup
 use Rattle.plan.proofs as plan
 use Rattle.order.proofs as order
 use Rattle.rows.proofs as rows
@@ -65,13 +66,18 @@ numbers-of κs i r s m n p q = (p ∙ sym q, refl)
 pub read-table : Settles table.read_table.ended table.read_table.Reads.Learnt
 read-table κs i r s m n p q = (p ∙ sym q, refl)
 
--- ---- text
+-- ---- bytes
 
 pub put : Settles bytes.put.ended bytes.put.Reads.Learnt
 put κs i r s m n p q = (p .place ∙ sym (q .place), λ k. ((p .area ∙ sym (q .area)) k, m .1))
 
 pub put-number : Settles bytes.put_number.ended bytes.put_number.Reads.Learnt
 put-number κs i r s m n p q = (p .place ∙ sym (q .place), λ k. ((p .area ∙ sym (q .area)) k, m .1))
+
+-- ---- lookup
+
+pub index-of : Settles lookup.index_of.ended lookup.index_of.Reads.Learnt
+index-of κs i r s m n p q = (lookup.Lookup.indexes-one _ r s p q, refl)
 
 -- ---- plan
 
