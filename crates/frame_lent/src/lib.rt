@@ -1,8 +1,8 @@
 // The frame runner on a record that the panel's loop lends: each function takes the record apart, calls the step by value and leaves
 // the record brought up to date where it lies. Two functions serve every call: begin, and the others by an event.
 ghost use mathlib.Core.Path.{_≡_};
-ghost use Rattle.frame.specs.Begin.{beginStep};
-ghost use Rattle.frame.specs.Step.{eventStep};
+ghost use Rattle.frame_begin.specs.Begin.{beginStep};
+ghost use Rattle.frame_calls.specs.Calls.{eventStep};
 use frame::Answer;
 use frame::Event;
 use frame::Frame;

@@ -19,18 +19,18 @@ use Rattle.table.specs.Records.{used}
 use Rattle.table.specs.Tables.{JobTable}
 use Rattle.plan.specs.declared.Step.{Step}
 use Rattle.plan.specs.Plans.{stepId, noStep, stepOf}
-use Rattle.frame.specs.Finite.{finite?}
-use Rattle.frame.specs.Step.{Reply}
-use Rattle.frame.specs.Run.{event}
-use Rattle.frame.specs.declared.Event.the-variants as E
-use Rattle.frame.proofs.Passed.{Passed}
+use Rattle.frame_record.specs.Finite.{finite?}
+use Rattle.frame_record.specs.Answers.{Reply}
+use Rattle.frame_promises.specs.Call.{event}
+use Rattle.frame_record.specs.declared.Event.the-variants as E
+use Rattle.frame_begin.proofs.Passed.{Passed}
 use Rattle.frame_promises.specs.History.{Turn, Report, Last, History, idle, opened, closed, done, onClock, spanEnds, fresh, reads, reply}
 use Rattle.frame_promises.specs.History.{since, spanEnded, without, accepts, isAccepted, told, reportOf}
 use Rattle.frame_promises.specs.Own.{Doing, doingAt, idAt, awayAt, valueAt, spanTime, backTime, Quiet, asks-next, asks-read, asks-begin}
 use Rattle.frame_promises.specs.Own.{other-number, is-refused, spanCall, backCall}
 use Rattle.frame_promises.proofs.Laws.{used-head, used-tail, without-other, report-same, report-other, in-table}
 
-module _ (number : ℕ) (t : JobTable) (xs : List Step) (p : Passed t xs) (ds : List Doing)
+module _ (number : ℕ) (t : JobTable) (xs : List Called) (p : Passed t xs) (ds : List Doing)
     (counted : length xs ≡ length ds) (step-is : (k : ℕ) → getD xs k noStep ≡ stepOf ((doingAt ds k) .took .what)) where
   abbrev D : ℕ
   D = t .deadline
@@ -39,7 +39,7 @@ module _ (number : ℕ) (t : JobTable) (xs : List Step) (p : Passed t xs) (ds : 
   id-is k = ap stepId (step-is k)
 
   away-is : (k : ℕ) → (getD xs k noStep) .away ≡ awayAt ds k
-  away-is k = ap (λ (x : Step). x .away) (step-is k)
+  away-is k = ap (λ (x : Called). x .away) (step-is k)
 
   -- the ids of two jobs differ
   below-differ : (i k : ℕ) → i < k → k < length ds → idAt ds i ≡ idAt ds k → ⊥
@@ -88,10 +88,10 @@ module _ (number : ℕ) (t : JobTable) (xs : List Step) (p : Passed t xs) (ds : 
     -- ---- the next span ends
 
     module _ (v : Float) (inside : n < length ds) (later : now ≤ spanTime ds n) (fits : spanTime ds n ≤ D) where
-      abbrev x : Step
+      abbrev x : Called
       x = getD xs n noStep
 
-      abbrev rest : List Step
+      abbrev rest : List Called
       rest = drop (n + 1) xs
 
       comes : b .to-come ≡ x ∷ rest
@@ -153,7 +153,7 @@ module _ (number : ℕ) (t : JobTable) (xs : List Step) (p : Passed t xs) (ds : 
           below k h = omega arith
 
       -- what is answered, by what is to come
-      abbrev SpanSays : List Step → Type 0
+      abbrev SpanSays : List Called → Type 0
       SpanSays l =
           (onClock b (spanTime ds n) (spanEnds l (idAt ds n) v) ≡ done) × Going (n + 1) home (spanTime ds n) (spanEnded b (spanTime ds n) v l)
 

@@ -28,12 +28,12 @@ use Rattle.judge.proofs.Jobs.{member-all, perm-members}
 use Rattle.faults.proofs.Tables.{table-read}
 use Rattle.faults.proofs.Plans.{plan-read}
 use Rattle.faults.proofs.Says.{pass-iff-runs, pass-or-late}
-use Rattle.frame.specs.Finite.{finite?}
-use Rattle.frame.specs.Step.{Reply, says}
-use Rattle.frame.specs.Begin.{stepsIn}
-use Rattle.frame.specs.Run.{Call, begin, event}
-use Rattle.frame.specs.declared.Event.the-variants as E
-use Rattle.frame.proofs.Passed.{Passed, passed}
+use Rattle.frame_record.specs.Finite.{finite?}
+use Rattle.frame_record.specs.Answers.{Reply, says}
+use Rattle.frame_begin.specs.Begin.{stepsIn}
+use Rattle.frame_promises.specs.Call.{Call, begin, event}
+use Rattle.frame_record.specs.declared.Event.the-variants as E
+use Rattle.frame_begin.proofs.Passed.{Passed, passed}
 use Rattle.frame_promises.specs.History.{Turn, Last, History, idle, opened, closed, done, fresh, reply, accepts, isAccepted, told, history}
 use Rattle.frame_promises.specs.Runs.{FromIdle}
 use Rattle.frame_promises.specs.Own.{MayBegin, Planned, Doing, runOf, noDoing, doingAt, jobAt, idAt, valueAt, backTime, spanTime, spanCall, backCall}
@@ -79,7 +79,7 @@ module _ {table plan : List ℕ} {t : JobTable} {cs : List Chosen} (w : Planned 
 
   is-passed : Passed t (stepsFor cs)
   is-passed =
-      subst (λ (o : Outcome (List Step)). Passed t (stepsIn o)) read-plan
+      subst (λ (o : Outcome (List Called)). Passed t (stepsIn o)) read-plan
       (passed t (accepted-good table t read-table) plan last busy-total after-plan)
 
   -- the jobs of a run are the plan's
@@ -133,7 +133,7 @@ only-reads b (u ∷ us) r = rw (step (u .call) (r .0 .1) (isAccepted (u .said)))
 
 -- ---- the frame's turns, one after the other
 
-module _ (number : ℕ) (t : JobTable) (xs : List Step) (p : Passed t xs) (ds : List Doing) (counted : length xs ≡ length ds)
+module _ (number : ℕ) (t : JobTable) (xs : List Called) (p : Passed t xs) (ds : List Doing) (counted : length xs ≡ length ds)
     (step-at : (k : ℕ) → getD xs k noStep ≡ stepOf ((doingAt ds k) .took .what))
     (fits : (k : ℕ) → k < length ds → backTime ds k ≤ t .deadline) (finite : (k : ℕ) → k < length ds → finite? (valueAt ds k) ≡ true) where
   abbrev Goes : ℕ → List ℕ → ℕ → Last → Type 0

@@ -25,29 +25,30 @@ use Rattle.plan.specs.Plans.{noStep, readPlan}
 use Rattle.judge.specs.declared.Checked.{Checked}
 use Rattle.judge.specs.declared.Checked.the-variants.{Passes, Fails}
 use Rattle.judge.specs.Check.{afterPlan, afterTable, checkPlan}
-use Rattle.frame.specs.Finite.{finite?}
-use Rattle.frame.specs.Sound as S
-use Rattle.frame.specs.Sound.{entryAt, entryId, open?, begun?, ready?}
-use Rattle.frame.specs.Step.{Reply, says, answerSays, refused, judge, moved, whereIs, panelEntry, spanAt, spanStep, backAt, backTo, backStep}
-use Rattle.frame.specs.Step.{closeStep, readingOf, readAt, readOf, nextOf}
-use Rattle.frame.specs.Step as step
-use Rattle.frame.specs.Begin.{stepsIn, begun, mayOpen, beginChecked, beginRead, beginStep}
-use Rattle.frame.specs.Run.{Call, begin, event, stepOf}
-use Rattle.frame.specs.declared.Phase.{Phase}
-use Rattle.frame.specs.declared.Phase.the-variants.{Idle, Open, Closed}
-use Rattle.frame.specs.declared.Standing.{Standing}
-use Rattle.frame.specs.declared.Standing.the-variants as stands
-use Rattle.frame.specs.declared.Frame.{Frame}
-use Rattle.frame.specs.declared.Answer.{Answer}
-use Rattle.frame.specs.declared.Answer.the-variants.{Panel, Rest, Read}
-use Rattle.frame.specs.declared.Found.{Found}
-use Rattle.frame.specs.declared.Found.the-variants.{At, Nothing}
-use Rattle.frame.specs.declared.Event.{Event}
-use Rattle.frame.specs.declared.Event.the-variants as E
-use Rattle.frame.specs.declared.Step.{Step}
-use Rattle.frame.proofs.Laws.{false-true, first-below, first-has, first-some}
-use Rattle.frame.proofs.Passed.{Passed, passed}
-use Rattle.frame.proofs.Reached.{Fine}
+use Rattle.frame_record.specs.Finite.{finite?}
+use Rattle.frame_record.specs.Sound as S
+use Rattle.frame_record.specs.Sound.{entryAt, entryId, open?, begun?, ready?}
+use Rattle.frame_record.specs.Answers.{Reply, says, answerSays, refused}
+use Rattle.frame_calls.specs.Calls.{judge, moved, whereIs, panelEntry, spanAt, spanStep, backAt, backTo, backStep}
+use Rattle.frame_calls.specs.Calls.{closeStep, readingOf, readAt, readOf, nextOf}
+use Rattle.frame_calls.specs.Calls as step
+use Rattle.frame_begin.specs.Begin.{stepsIn, begun, mayOpen, beginChecked, beginRead, beginStep}
+use Rattle.frame_promises.specs.Call.{Call, begin, event, stepOf}
+use Rattle.frame_record.specs.declared.Phase.{Phase}
+use Rattle.frame_record.specs.declared.Phase.the-variants.{Idle, Open, Closed}
+use Rattle.frame_record.specs.declared.Standing.{Standing}
+use Rattle.frame_record.specs.declared.Standing.the-variants as stands
+use Rattle.frame_record.specs.declared.Frame.{Frame}
+use Rattle.frame_record.specs.declared.Answer.{Answer}
+use Rattle.frame_record.specs.declared.Answer.the-variants.{Panel, Rest, Read}
+use Rattle.frame_record.specs.declared.Found.{Found}
+use Rattle.frame_record.specs.declared.Found.the-variants.{At, Nothing}
+use Rattle.frame_record.specs.declared.Event.{Event}
+use Rattle.frame_record.specs.declared.Event.the-variants as E
+use Rattle.frame_record.specs.declared.Called.{Called}
+use Rattle.frame_record.proofs.Laws.{false-true, first-below, first-has, first-some}
+use Rattle.frame_begin.proofs.Passed.{Passed, passed}
+use Rattle.frame_promises.proofs.Reached.{Fine}
 use Rattle.frame_promises.specs.History.{Report, Last, History, idle, opened, closed, done, refuse, begins, nexts, onClock, valued, spanEnds}
 use Rattle.frame_promises.specs.History.{returns, closes, reading, reads, inOpen, inClosed, reply, opens, accepts, isAccepted, told}
 use Rattle.frame_promises.specs.History.{reportOf}
@@ -56,17 +57,17 @@ use Rattle.frame_promises.proofs.Since.{Clear}
 use Rattle.frame_promises.proofs.Agrees.{Stood, Agrees, Tells, silent, goes-out, has-value, comes-back, is-closed, begun-agrees}
 
 -- a step fits a reply: it is what the answer says, and the record after it is that of the history after it
-abbrev pub Fits : Call → History → Step → Reply → Type 0
+abbrev pub Fits : Call → History → Called → Reply → Type 0
 Fits c h s r = (answerSays (s .answer) ≡ r) × Tells (s .frame) (told h c r)
 
 module _ (c : Call) (h : History) where
   -- the same test of a step and of a reply
-  same : (w : Bool) (x y : Step) (p q : Reply) → (w ≡ true → Fits c h x p) → (w ≡ false → Fits c h y q) → Fits c h (cond w x y) (cond w p q)
+  same : (w : Bool) (x y : Called) (p q : Reply) → (w ≡ true → Fits c h x p) → (w ≡ false → Fits c h y q) → Fits c h (cond w x y) (cond w p q)
   same true x y p q f g = f refl
   same false x y p q f g = g refl
 
   both :
-      (w z : Bool) → w ≡ z → (x y : Step) (p q : Reply) → (w ≡ true → Fits c h x p) → (w ≡ false → Fits c h y q) →
+      (w z : Bool) → w ≡ z → (x y : Called) (p q : Reply) → (w ≡ true → Fits c h x p) → (w ≡ false → Fits c h y q) →
       Fits c h (cond w x y) (cond z p q)
   both w z e x y p q f g = rw (← e) (same w x y p q f g)
 
@@ -141,7 +142,7 @@ module _ (f : Frame) (fine : Fine f) where
     refuses : (c : Call) (r : Refusal) → Fits c H (refused r f) (says (refusalSays r))
     refuses c r = (refl, rw (refused-told H c r) (is, a))
 
-    clock : (c : Call) (t : ℕ) (x : Step) (p : Reply) → Fits c H x p → Fits c H (step.onClock f t x) (onClock b t p)
+    clock : (c : Call) (t : ℕ) (x : Called) (p : Reply) → Fits c H x p → Fits c H (step.onClock f t x) (onClock b t p)
     clock c t x p e = both c H (ltb t (f .clock)) (ltb t (b .clock)) (ap (ltb t) (a .clocked)) _ _ _ _ (λ _. refuses c R.Clock) (λ _. e)
 
     -- a call that only asks changes nothing, whatever it is answered

@@ -18,9 +18,9 @@ use Rattle.plan.specs.Plans.{stepsFor}
 use Rattle.judge.specs.Check.{checkedSays, checkPlan}
 use Rattle.faults.specs.Faults.{TableIs, PlanIs}
 use Rattle.faults.specs.Checks.{PlanOf}
-use Rattle.frame.specs.Step.{Reply}
-use Rattle.frame.specs.Run.{Call, begin, event}
-use Rattle.frame.specs.declared.Event.the-variants as E
+use Rattle.frame_record.specs.Answers.{Reply}
+use Rattle.frame_promises.specs.Call.{Call, begin, event}
+use Rattle.frame_record.specs.declared.Event.the-variants as E
 use Rattle.frame_promises.specs.History.{Turn, done, fresh, isAccepted}
 use Rattle.frame_promises.specs.Runs.{FromIdle}
 use Rattle.frame_promises.specs.Readings.{NoBegin, LastBegin, IsClosed}
@@ -31,12 +31,12 @@ use Rattle.frame_promises.specs.Readings.{NoBegin, LastBegin, IsClosed}
 pub data NotOpen (ts : List Turn) : Type 0 where
   none-begun : All NoBegin ts → NotOpen ts
   was-closed :
-      {number : ℕ} {jobs : JobTable} {steps : List Step} {since : List Turn} → LastBegin ts number jobs steps since → IsClosed since →
+      {number : ℕ} {jobs : JobTable} {steps : List Called} {since : List Turn} → LastBegin ts number jobs steps since → IsClosed since →
       NotOpen ts
 
 -- "above the last one begun"; any, where there is none
 abbrev pub AboveLast : List Turn → ℕ → Type 0
-AboveLast ts n = (number : ℕ) (jobs : JobTable) (steps : List Step) (since : List Turn) → LastBegin ts number jobs steps since → number < n
+AboveLast ts n = (number : ℕ) (jobs : JobTable) (steps : List Called) (since : List Turn) → LastBegin ts number jobs steps since → number < n
 
 -- the check passes
 abbrev pub Passes : List ℕ → List ℕ → Type 0

@@ -4,13 +4,13 @@ use mathlib.Core.Path.{_≡_}
 use mathlib.Core.Bool.{Bool}
 use mathlib.Core.List.{List, [], _∷_}
 use Rattle.faults.specs.Allows.{to}
-use Rattle.frame.specs.Step.{answerSays}
-use Rattle.frame.specs.Run.{Call, begin, event}
-use Rattle.frame.specs.declared.Answer.{Answer}
-use Rattle.frame.specs.declared.Event.{Event}
-use Rattle.frame.specs.declared.Event.the-variants as E
-use Rattle.frame.specs.declared.Frame.{Frame}
-use Rattle.frame.specs.declared.Step.{Step}
+use Rattle.frame_record.specs.Answers.{answerSays}
+use Rattle.frame_promises.specs.Call.{Call, begin, event}
+use Rattle.frame_record.specs.declared.Answer.{Answer}
+use Rattle.frame_record.specs.declared.Event.{Event}
+use Rattle.frame_record.specs.declared.Event.the-variants as E
+use Rattle.frame_record.specs.declared.Frame.{Frame}
+use Rattle.frame_record.specs.declared.Called.{Called}
 use Rattle.frame.proofs as frame
 use Rattle.frame_promises.specs.History.{Turn}
 
@@ -19,15 +19,15 @@ abbrev pub Starts : Frame → Type 0
 Starts f = frame.Frame.idle.Reads.Learnt tt tt f tt
 
 -- and `Frame::begin` and `Frame::step`
-abbrev pub Allows : Frame → Call → Step → Type 0
+abbrev pub Allows : Frame → Call → Called → Type 0
 Allows f (begin table plan n) s =
     frame.Frame.begin.Reads.Learnt ([], ([], tt)) (f, (to table, (to plan, (n, tt)))) s (f, (to table, (to plan, (n, tt))))
 Allows f (event e) s = frame.Frame.step.Reads.Learnt tt (f, (e, tt)) s (f, (e, tt))
 
 -- the turns of calls on a record, one after the other, where each call may answer so
-abbrev pub Runs : (Frame → Call → Step → Type 0) → Frame → List Turn → Type 0
+abbrev pub Runs : (Frame → Call → Called → Type 0) → Frame → List Turn → Type 0
 Runs May f [] = Unit {0}
-Runs May f (t ∷ ts) = (s : Step) × May f (t .call) s × (t .said ≡ answerSays (s .answer)) × Runs May (s .frame) ts
+Runs May f (t ∷ ts) = (s : Called) × May f (t .call) s × (t .said ≡ answerSays (s .answer)) × Runs May (s .frame) ts
 
 abbrev pub FromIdle : List Turn → Type 0
 FromIdle ts = (f : Frame) × Starts f × Runs Allows f ts
@@ -35,7 +35,7 @@ FromIdle ts = (f : Frame) × Starts f × Runs Allows f ts
 -- the same turns, and the record that they come to
 abbrev pub Reaches : Frame → List Turn → Frame → Type 0
 Reaches f [] g = f ≡ g
-Reaches f (t ∷ ts) g = (s : Step) × Allows f (t .call) s × (t .said ≡ answerSays (s .answer)) × Reaches (s .frame) ts g
+Reaches f (t ∷ ts) g = (s : Called) × Allows f (t .call) s × (t .said ≡ answerSays (s .answer)) × Reaches (s .frame) ts g
 
 -- what `Frame::sound` may answer
 abbrev pub SoundAllows : Frame → Bool → Type 0
@@ -49,7 +49,7 @@ AskAllows f (E.SpanEnd id t v) r = ⊥
 AskAllows f (E.Return n id t v) r = ⊥
 AskAllows f (E.Close t) r = ⊥
 
-abbrev pub CallAllows : Frame → Event → Step → Type 0
+abbrev pub CallAllows : Frame → Event → Called → Type 0
 CallAllows f E.Next s = ⊥
 CallAllows f (E.Read id) s = ⊥
 CallAllows f (E.SpanEnd id t v) s = frame.Frame.span_end.Reads.Learnt tt (f, (id, (t, (v, tt)))) s (f, (id, (t, (v, tt))))

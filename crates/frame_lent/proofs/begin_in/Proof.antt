@@ -41,19 +41,19 @@ use denote.Triple.Spec.{Meets, tripleOf}
 use denote.Triple.Table.{entered, cited}
 use denote.Triple.Walked.{says, Stays, stay-ref, stay-none, stay-none-slice, walkOf, AllGo, goes-none, goes-none-slice, goes-ref, Walks, ends-at, walked, walk-meets}
 use denote.Exit.{yes}
-use Rattle.frame.specs.Begin.{beginStep}
-use Rattle.frame.specs.declared.Frame.{Frame}
-use Rattle.frame.specs.declared.Step.{Step}
-use Rattle.frame.proofs.Frame as T
-use Rattle.frame.proofs.Frame.Laws as T′
-use Rattle.frame.proofs.Step as S
-use Rattle.frame.proofs.Step.Laws as S′
-use Rattle.frame.proofs.Answer as N
-use Rattle.frame.proofs.Answer.Laws as N′
-use Rattle.frame.proofs.Frame.begin as step
-use Rattle.frame.proofs.Frame.begin.Symbol as step-def
-use Rattle.frame.proofs.Frame.begin.Symbol.{name as #step}
-use Rattle.frame.proofs.Frame.begin.Met as step-thm
+use Rattle.frame_begin.specs.Begin.{beginStep}
+use Rattle.frame_record.specs.declared.Frame.{Frame}
+use Rattle.frame_record.specs.declared.Called.{Called}
+use Rattle.frame_record.proofs.Frame as T
+use Rattle.frame_record.proofs.Frame.Laws as T′
+use Rattle.frame_record.proofs.Called as S
+use Rattle.frame_record.proofs.Called.Laws as S′
+use Rattle.frame_record.proofs.Answer as N
+use Rattle.frame_record.proofs.Answer.Laws as N′
+use Rattle.frame_begin.proofs.begin as step
+use Rattle.frame_begin.proofs.begin.Symbol as step-def
+use Rattle.frame_begin.proofs.begin.Symbol.{name as #step}
+use Rattle.frame_begin.proofs.begin.Met as step-thm
 use Rattle.frame_lent.proofs.begin_in.Key.{name as #self}
 use Rattle.frame_lent.proofs.begin_in as self
 use Rattle.frame_lent.proofs.begin_in.Statement as stated
@@ -69,10 +69,10 @@ abbrev vals : Frame → List Val
 vals = LL.vals T.the-type T′.the-laws
 
 -- a step's machine value is spelled by the step
-spelled : (r : Step) (ws : List Val) → Is S.the-row r ws → ws ≡ LL.vals S.the-type S′.the-laws r
+spelled : (r : Called) (ws : List Val) → Is S.the-row r ws → ws ≡ LL.vals S.the-type S′.the-laws r
 spelled r ws is = LL.tells S.the-type S′.the-laws r ws is
 
-is″ : (r : Step) (ws : List Val) → Is S.the-row r ws → Is S.the-row r (LL.vals S.the-type S′.the-laws r)
+is″ : (r : Called) (ws : List Val) → Is S.the-row r ws → Is S.the-row r (LL.vals S.the-type S′.the-laws r)
 is″ r ws is = subst (λ (us : List Val). Is S.the-row r us) (spelled r ws is) is
 
 -- the contract that the proof cites
@@ -102,7 +102,7 @@ module _ {M : Type 1} (𝓤 : URA M) (H : Heap 𝓤) (A : Atoms 𝓤) (W : Given
   Post = walkOf 𝓤 H A self.ended stayed (self.clauses 𝓤 H A at-mem run) .post (((κ, (κ₁, (κ₂, tt))), (q, (q₁, (q₂, tt))), tt, x, at), tt)
 
   -- of the step's `ensured`, the clause alone
-  told : (r : Step) → ent 𝓤 (ensured 𝓤 H A step.ended (step.clauses 𝓤 H A at-mem run) (κ₁, (κ₂, tt)) (h, (s₁, (s₂, (n, tt)))) tt r) (fact 𝓤 (r ≡ beginStep h (now s₁) (now s₂) n))
+  told : (r : Called) → ent 𝓤 (ensured 𝓤 H A step.ended (step.clauses 𝓤 H A at-mem run) (κ₁, (κ₂, tt)) (h, (s₁, (s₂, (n, tt)))) tt r) (fact 𝓤 (r ≡ beginStep h (now s₁) (now s₂) n))
   told r = exE 𝓤 _ (λ ws. snd∗ 𝓤 (sem 𝓤 H A (lasts step.ended (κ₁, (κ₂, tt)) (h, (s₁, (s₂, (n, tt)))) ws)) (fact 𝓤 (r ≡ beginStep h (now s₁) (now s₂) n)))
 
   abbrev to-step : Stepped 𝓤 H A at-mem run .Ghost
@@ -111,7 +111,7 @@ module _ {M : Type 1} (𝓤 : URA M) (H : Heap 𝓤) (A : Atoms 𝓤) (W : Given
   asked : ent 𝓤 (sep 𝓤 (sep 𝓤 (A .lft κ₁ q₁) (sep 𝓤 (A .lft κ₂ q₂) (sem 𝓤 H A ftrue))) (sem 𝓤 H A (owns (T.the-row ∷ ShrSlice (named 0) κ₁ u8 ∷ ShrSlice (named 1) κ₂ u8 ∷ u32 ∷ []) (h, (s₁, (s₂, (n, tt)))) (vals h, (v₁ ∷ [], (v₂ ∷ [], (vint w32 n ∷ [], tt))))))) (Stepped 𝓤 H A at-mem run .pre to-step)
   asked = qed W ((‵ (flft κ₁ q₁) ⊛ ‵ (flft κ₂ q₂) ⊛ ‵ ftrue) ∷ ‵ (owns (T.the-row ∷ ShrSlice (named 0) κ₁ u8 ∷ ShrSlice (named 1) κ₂ u8 ∷ u32 ∷ []) (h, (s₁, (s₂, (n, tt)))) (vals h, (v₁ ∷ [], (v₂ ∷ [], (vint w32 n ∷ [], tt))))) ∷ []) ∵ join ! $ frame ! $ done !
 
-  module _ (r : Step) (is : Is S.the-row r (LL.vals S.the-type S′.the-laws r)) where
+  module _ (r : Called) (is : Is S.the-row r (LL.vals S.the-type S′.the-laws r)) where
     is-answer : Is N.the-row (r .answer) (EL.vals N.the-type N′.the-laws (r .answer))
     is-answer = LL.owed S.the-type S′.the-laws r _ is .0
 
@@ -144,7 +144,7 @@ module _ {M : Type 1} (𝓤 : URA M) (H : Heap 𝓤) (A : Atoms 𝓤) (W : Given
         nothing ! $ owned ! u32 (Is u32) (uint-makes 𝓤 H A W w32) n _ (refl, fits) $ fjoin ! $ move ! (23 ∷ 0 ∷ []) $ fjoin ! $ move ! (21 ∷ 0 ∷ []) $ fjoin ! $ move ! (1 ∷ 0 ∷ []) $ fjoin ! $
         move ! (19 ∷ 0 ∷ []) $ use2 W (raw (Stepped 𝓤 H A at-mem run .pre to-step)) asked $
         calls-at ! fm (Stepped 𝓤 H A at-mem run) known to-step (and-then ! (load ! (from ! (stop !)) (look ! 5 refl)) (and-then ! (load ! (from ! (stop !)) (look ! 13 refl)) (and-then ! (load ! (from ! (stop !)) (look ! 11 refl)) (and-then ! (load ! (from ! (stop !)) (look ! 9 refl)) (no-more !))))) (λ w.
-        use1 W (later (some (λ (r : Step). ((‵ (flft κ₁ q₁) ⊛ ‵ (flft κ₂ q₂) ⊛ ‵ ftrue) ⊛ ‵ (S.the-row .own r (w ∷ []))) ⊛ raw (ensured 𝓤 H A step.ended (step.clauses 𝓤 H A at-mem run) (κ₁, (κ₂, tt)) (h, (s₁, (s₂, (n, tt)))) tt r)))) (id⊢ 𝓤 _) $ await ! tt $ pick ! (λ r.
+        use1 W (later (some (λ (r : Called). ((‵ (flft κ₁ q₁) ⊛ ‵ (flft κ₂ q₂) ⊛ ‵ ftrue) ⊛ ‵ (S.the-row .own r (w ∷ []))) ⊛ raw (ensured 𝓤 H A step.ended (step.clauses 𝓤 H A at-mem run) (κ₁, (κ₂, tt)) (h, (s₁, (s₂, (n, tt)))) tt r)))) (id⊢ 𝓤 _) $ await ! tt $ pick ! (λ r.
         split ! $ move ! (1 ∷ []) $ use1 W (raw (fact 𝓤 (r ≡ beginStep h (now s₁) (now s₂) n))) (told r) $ heard ! (r ≡ beginStep h (now s₁) (now s₂) n) (λ e. split ! $ move ! (1 ∷ []) $
         peeks ! S.the-row (Is S.the-row) (shows 𝓤 H A S.the-row) r (w ∷ []) (λ is′.
         -- [what the step owns; the slices' tokens; the record's cell; the open borrow; obs; auth; _6; …; _5; …; _4; …; _3; …; _2; …; _1; …; room for _0; …; table's; plan's; …]

@@ -37,22 +37,22 @@ use denote.Triple.Spec.{Meets, tripleOf}
 use denote.Triple.Table.{entered, cited}
 use denote.Triple.Walked.{says, Stays, stay-ref, stay-none, walkOf, AllGo, goes-none, goes-ref, Walks, ends-at, walked, walk-meets}
 use denote.Exit.{yes}
-use Rattle.frame.specs.Step.{eventStep}
-use Rattle.frame.specs.declared.Frame.{Frame}
-use Rattle.frame.specs.declared.Step.{Step}
-use Rattle.frame.proofs.Frame as T
-use Rattle.frame.proofs.Frame.Laws as T′
-use Rattle.frame.proofs.Step as S
-use Rattle.frame.proofs.Step.Laws as S′
-use Rattle.frame.specs.declared.Event.{Event}
-use Rattle.frame.proofs.Event as E
-use Rattle.frame.proofs.Event.Laws as E′
-use Rattle.frame.proofs.Answer as N
-use Rattle.frame.proofs.Answer.Laws as N′
-use Rattle.frame.proofs.Frame.step as step
-use Rattle.frame.proofs.Frame.step.Symbol as step-def
-use Rattle.frame.proofs.Frame.step.Symbol.{name as #step}
-use Rattle.frame.proofs.Frame.step.Met as step-thm
+use Rattle.frame_calls.specs.Calls.{eventStep}
+use Rattle.frame_record.specs.declared.Frame.{Frame}
+use Rattle.frame_record.specs.declared.Called.{Called}
+use Rattle.frame_record.proofs.Frame as T
+use Rattle.frame_record.proofs.Frame.Laws as T′
+use Rattle.frame_record.proofs.Called as S
+use Rattle.frame_record.proofs.Called.Laws as S′
+use Rattle.frame_record.specs.declared.Event.{Event}
+use Rattle.frame_record.proofs.Event as E
+use Rattle.frame_record.proofs.Event.Laws as E′
+use Rattle.frame_record.proofs.Answer as N
+use Rattle.frame_record.proofs.Answer.Laws as N′
+use Rattle.frame_calls.proofs.step as step
+use Rattle.frame_calls.proofs.step.Symbol as step-def
+use Rattle.frame_calls.proofs.step.Symbol.{name as #step}
+use Rattle.frame_calls.proofs.step.Met as step-thm
 use Rattle.frame_lent.proofs.call_in.Key.{name as #self}
 use Rattle.frame_lent.proofs.call_in as self
 use Rattle.frame_lent.proofs.call_in.Statement as stated
@@ -74,10 +74,10 @@ abbrev events : Event → List Val
 events = EL.vals E.the-type E′.the-laws
 
 -- a step's machine value is spelled by the step
-spelled : (r : Step) (ws : List Val) → Is S.the-row r ws → ws ≡ LL.vals S.the-type S′.the-laws r
+spelled : (r : Called) (ws : List Val) → Is S.the-row r ws → ws ≡ LL.vals S.the-type S′.the-laws r
 spelled r ws is = LL.tells S.the-type S′.the-laws r ws is
 
-is″ : (r : Step) (ws : List Val) → Is S.the-row r ws → Is S.the-row r (LL.vals S.the-type S′.the-laws r)
+is″ : (r : Called) (ws : List Val) → Is S.the-row r ws → Is S.the-row r (LL.vals S.the-type S′.the-laws r)
 is″ r ws is = subst (λ (us : List Val). Is S.the-row r us) (spelled r ws is) is
 
 -- the contract that the proof cites
@@ -95,7 +95,7 @@ module _ {M : Type 1} (𝓤 : URA M) (H : Heap 𝓤) (A : Atoms 𝓤) (W : Given
   Post = walkOf 𝓤 H A self.ended stayed (self.clauses 𝓤 H A at-mem run) .post (((κ, tt), (q, tt), tt, x, at), tt)
 
   -- of the step's `ensured`, the clause alone
-  told : (r : Step) → ent 𝓤 (ensured 𝓤 H A step.ended (step.clauses 𝓤 H A at-mem run) tt (h, (n, tt)) tt r) (fact 𝓤 (r ≡ eventStep h n))
+  told : (r : Called) → ent 𝓤 (ensured 𝓤 H A step.ended (step.clauses 𝓤 H A at-mem run) tt (h, (n, tt)) tt r) (fact 𝓤 (r ≡ eventStep h n))
   told r = exE 𝓤 _ (λ ws. snd∗ 𝓤 (sem 𝓤 H A (lasts step.ended tt (h, (n, tt)) ws)) (fact 𝓤 (r ≡ eventStep h n)))
 
   abbrev to-step : Stepped 𝓤 H A at-mem run .Ghost
@@ -105,7 +105,7 @@ module _ {M : Type 1} (𝓤 : URA M) (H : Heap 𝓤) (A : Atoms 𝓤) (W : Given
   goes-step =
       qed W (‵ (T.the-row .own h (vals h)) ∷ []) ∵ nothing ! $ owned ! E.the-row (Is E.the-row) (EL.makes E.the-type E′.the-plain 𝓤 H A) n _ fits $ fjoin ! $ move ! (1 ∷ 0 ∷ []) $ fjoin ! $ nothing ! $ join ! $ frame ! $ done !
 
-  module _ (r : Step) (is : Is S.the-row r (LL.vals S.the-type S′.the-laws r)) where
+  module _ (r : Called) (is : Is S.the-row r (LL.vals S.the-type S′.the-laws r)) where
     is-answer : Is N.the-row (r .answer) (EL.vals N.the-type N′.the-laws (r .answer))
     is-answer = LL.owed S.the-type S′.the-laws r _ is .0
 
@@ -133,7 +133,7 @@ module _ {M : Type 1} (𝓤 : URA M) (H : Heap 𝓤) (A : Atoms 𝓤) (W : Given
         assigns ! (of-opd ! (load ! (from ! (hop ! (look ! 11 refl) (stop !))) (look-raw ! 1 refl))) (from ! (stop !)) (init ! 5 refl (LL.lawful T.the-type T′.the-laws 𝓤 H A W .typed h _ g .0)) $
         use1 W (raw (Stepped 𝓤 H A at-mem run .pre to-step)) goes-step $
         calls-at ! fm (Stepped 𝓤 H A at-mem run) known to-step (and-then ! (load ! (from ! (stop !)) (look ! 5 refl)) (and-then ! (load ! (from ! (stop !)) (look ! 9 refl)) (no-more !))) (λ w.
-        use1 W (later (some (λ (r : Step). (‵ ftrue ⊛ ‵ (S.the-row .own r (w ∷ []))) ⊛ raw (ensured 𝓤 H A step.ended (step.clauses 𝓤 H A at-mem run) tt (h, (n, tt)) tt r)))) (id⊢ 𝓤 _) $ await ! tt $ pick ! (λ r.
+        use1 W (later (some (λ (r : Called). (‵ ftrue ⊛ ‵ (S.the-row .own r (w ∷ []))) ⊛ raw (ensured 𝓤 H A step.ended (step.clauses 𝓤 H A at-mem run) tt (h, (n, tt)) tt r)))) (id⊢ 𝓤 _) $ await ! tt $ pick ! (λ r.
         split ! $ move ! (1 ∷ []) $ use1 W (raw (fact 𝓤 (r ≡ eventStep h n))) (told r) $ heard ! (r ≡ eventStep h n) (λ e. split ! $ drop ! $
         peeks ! S.the-row (Is S.the-row) (shows 𝓤 H A S.the-row) r (w ∷ []) (λ is′.
         land ! (from ! (stop !)) (init ! 7 refl (LL.lawful S.the-type S′.the-laws 𝓤 H A W .typed r _ is′ .0)) $
