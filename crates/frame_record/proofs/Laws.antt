@@ -10,7 +10,7 @@ use borrow.Author.Tests.{leb-true, ltb-true, eqb-true, eqb-false}
 use Prim.Native.Nat.{ℕ, zero, suc, _+_, _-_, _<_, _≤_}
 use native.Mathlib.Omega.{arith}
 use lib.Dec.{eqb}
-use Rattle.frame_record.specs.Sound.{placeAt, first, okOrder, okAt, okFrom, okCounts, okDeadline, okBegun, okIn, phaseIn, isOpen}
+use Rattle.frame_record.specs.Sound.{none, placeAt, first, entryId, whereIs, okOrder, okAt, okFrom, okCounts, okDeadline, okBegun, okIn, phaseIn, isOpen}
 use Rattle.frame_record.specs.Sound.{sound?, open?, begun?, ready?}
 use Rattle.frame_record.specs.declared.Phase.{Phase}
 use Rattle.frame_record.specs.declared.Phase.the-variants.{Idle, Open, Closed}
@@ -153,6 +153,11 @@ module _ {A : Type 0} (key : A → ℕ) (d : A) (xs : List A) (x : ℕ) where
             | inl same ↦ absurd (eqb-false (key (getD xs k d)) x t (rw same is))
             | inr more ↦ on (omega arith)
           ]
+
+-- a job that stands in the table stands below its end
+pub where-below : (f : Frame) (id i : ℕ) → whereIs f id ≡ At i → i < f .count
+unfolding whereIs
+where-below f id i e = omega (arith, first-below entryId none (f .entries) id 0 (f .count) i e)
 
 -- ---- what a sound record gives the calls
 

@@ -1,15 +1,18 @@
--- Document 01, 'The frame runner': what each answer says, a record before any frame, and what a call gives that is refused or done.
+-- Document 01, 'The frame runner': what each answer says, a record before any frame, and what all calls share.
 -- Assumes nothing.
 use Prim.Native.Nat.{ℕ}
 use mathlib.Core.Bool.{cond}
 use mathlib.Core.List.{List, [], _∷_}
 use mathlib.Core.Option.{Option, none, some}
 use lib.ListN.{replicate}
+use lib.Dec.{ltb}
 use lib.Ieee.{Float}
 use Rattle.table.specs.Limits.{mostJobs}
 use Rattle.table.specs.declared.refusal.Refusal.{Refusal}
+use Rattle.table.specs.declared.refusal.Refusal.the-variants as R
 use Rattle.table.specs.Refusals.{refusalSays}
 use Rattle.frame_record.specs.Sound as S
+use Rattle.frame_record.specs.Sound.{open?}
 use Rattle.frame_record.specs.declared.Phase.the-variants.{Idle}
 use Rattle.frame_record.specs.declared.Frame.{Frame}
 use Rattle.frame_record.specs.declared.Reading.{Reading}
@@ -60,3 +63,11 @@ refused r f = record { answer = Refused r; frame = f }
 
 abbrev pub done : Frame → Called
 done f = record { answer = Done; frame = f }
+
+-- "PHASE unless open", and of an unsound record
+abbrev pub inOpen : Frame → Called → Called
+inOpen f s = cond (open? f) s (refused R.Phase f)
+
+-- "CLOCK: time below that of the last accepted event"
+abbrev pub onClock : Frame → ℕ → Called → Called
+onClock f t s = cond (ltb t (f .clock)) (refused R.Clock f) s

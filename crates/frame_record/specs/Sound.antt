@@ -35,6 +35,17 @@ module _ {A : Type 0} (key : A → ℕ) (d : A) (xs : List A) (x : ℕ) where
 abbrev pub entryId : Entry → ℕ
 entryId e = e .id
 
+-- where the job of an id stands in the table
+unfoldable pub whereIs : Frame → ℕ → Found
+whereIs f id = first entryId none (f .entries) id 0 (f .count)
+
+-- the job now on the panel: the one that the plan is at
+abbrev pub panelPlace : Frame → ℕ
+panelPlace f = placeAt (f .order) (f .next)
+
+abbrev pub panelEntry : Frame → Entry
+panelEntry f = entryAt (f .entries) (panelPlace f)
+
 abbrev pub itself : ℕ → ℕ
 itself n = n
 
@@ -42,7 +53,7 @@ abbrev pub isAt : Found → ℕ → Bool
 isAt (At i) k = eqb i k
 isAt Nothing k = false
 
--- of the first `count`, none before the k-th has its id; none before the k-th has its place
+-- of the first `count`, none before the k-th has its id
 unfoldable pub okId : List Entry → ℕ → ℕ → Bool
 okId es count k = isAt (first entryId none es (entryAt es k .id) 0 count) k
 

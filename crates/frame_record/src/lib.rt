@@ -7,7 +7,7 @@ ghost use mathlib.Core.Bool.{_&&_};
 ghost use Prim.Native.Nat.{_≤_};
 ghost use Rattle.table.specs.Limits.{mostJobs};
 ghost use Rattle.frame_record.specs.Finite.{finite?};
-ghost use Rattle.frame_record.specs.Sound.{okEntry, okFrom, okBegun, sound?, phaseIn};
+ghost use Rattle.frame_record.specs.Sound.{whereIs, okEntry, okFrom, okBegun, sound?, phaseIn};
 ghost use Rattle.frame_record.specs.Answers.{idle, refused};
 
 pub enum Phase {
@@ -245,5 +245,22 @@ impl Frame {
             Phase::Open => during,
             Phase::Closed => after,
         }
+    }
+
+    // Where the job of an id stands in the table.
+    pub fn place_of(self, id: u8) -> Found
+        requires { ⌜ self .count ≤ mostJobs ⌝ }
+        ensures { λ r. ⌜ r ≡ whereIs self id ⌝ }
+    {
+        let count = self.count;
+        let mut i = 0;
+        while i < count {
+            let e = self.entries[i];
+            if e.id == id {
+                return Found::At(i);
+            }
+            i += 1;
+        }
+        Found::Nothing
     }
 }

@@ -3,8 +3,7 @@ use mathlib.Core.Path.{sym, _∙_}
 use native.Mathlib.Omega.{arith}
 use borrow.Author.Tests.{not-true, not-false}
 use Rattle.frame_calls.specs.Calls.{readOf}
-use Rattle.frame_record.proofs.Laws.{is-begun, begun-fits}
-use Rattle.frame_calls.proofs.Where.{where-below}
+use Rattle.frame_record.proofs.Laws.{is-begun, begun-fits, where-below}
 use borrow.Author.Needs.{needs}
 use Rattle.frame_calls.proofs.read.Statement.{statement}
 use Rattle.frame_calls.proofs.read.Tie as tie

@@ -1,7 +1,7 @@
--- `frame_calls::judged` meets its contract: a value that comes at the deadline is in time. Assumes nothing.
+-- `frame_reports::judged` meets its contract: a value that comes at the deadline is in time. Assumes nothing.
 use borrow.Author.Tests.{le-leb, lt-leb}
-use Rattle.frame_calls.proofs.judged.Statement.{statement}
-use Rattle.frame_calls.proofs.judged.Tie as tie
+use Rattle.frame_reports.proofs.judged.Statement.{statement}
+use Rattle.frame_reports.proofs.judged.Tie as tie
 
 returns : tie.Need-returns
 returns c = simp (le-leb _ _ (c .if1 .taken))

@@ -1,13 +1,12 @@
--- `frame_calls::give_back` meets its contract: each refusal in turn, and then where the job stands. Assumes nothing.
+-- `frame_reports::give_back` meets its contract: each refusal in turn, and then where the job stands. Assumes nothing.
 use mathlib.Core.Path.{sym, _∙_}
 use native.Mathlib.Omega.{arith}
 use borrow.Author.Tests.{lt-ltb, le-ltb, eq-eqb, ne-eqb, not-true, not-false}
-use Rattle.frame_calls.specs.Calls.{backStep}
-use Rattle.frame_record.proofs.Laws.{is-open, open-fits}
-use Rattle.frame_calls.proofs.Where.{where-below}
+use Rattle.frame_reports.specs.Reports.{backStep}
+use Rattle.frame_record.proofs.Laws.{is-open, open-fits, where-below}
 use borrow.Author.Needs.{needs}
-use Rattle.frame_calls.proofs.give_back.Statement.{statement}
-use Rattle.frame_calls.proofs.give_back.Tie as tie
+use Rattle.frame_reports.proofs.give_back.Statement.{statement}
+use Rattle.frame_reports.proofs.give_back.Tie as tie
 
 is-in-requires : tie.Need-is-in-requires
 is-in-requires c κs = search needs

@@ -1,7 +1,7 @@
--- `frame_calls::done_with` meets its contract. Assumes nothing.
+-- `frame_reports::done_with` meets its contract. Assumes nothing.
 use borrow.Author.Needs.{needs}
-use Rattle.frame_calls.proofs.done_with.Statement.{statement}
-use Rattle.frame_calls.proofs.done_with.Tie as tie
+use Rattle.frame_reports.proofs.done_with.Statement.{statement}
+use Rattle.frame_reports.proofs.done_with.Tie as tie
 
 mul-old : tie.Need-mul-old
 mul-old c = search needs

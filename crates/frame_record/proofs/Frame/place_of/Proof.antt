@@ -1,14 +1,13 @@
--- `frame_calls::place_of` meets its contract: what is still to look at gives the same as the whole. Assumes nothing.
+-- `frame_record::Frame::place_of` meets its contract: what is still to look at gives the same as the whole. Assumes nothing.
 use mathlib.Core.Path.{_≡_, _∙_, sym}
 use Prim.Native.Nat.{_≤_, _-_}
 use native.Mathlib.Nat.{sub-zero}
 use borrow.Author.Needs.{needs}
 use borrow.Author.Tests.{eq-eqb, ne-eqb}
-use Rattle.frame_record.specs.Sound.{none, entryId, first}
-use Rattle.frame_calls.specs.Calls.{whereIs}
+use Rattle.frame_record.specs.Sound.{none, entryId, first, whereIs}
 use Rattle.frame_record.proofs.Laws.{first-turn, first-end}
-use Rattle.frame_calls.proofs.place_of.Statement.{statement}
-use Rattle.frame_calls.proofs.place_of.Tie as tie
+use Rattle.frame_record.proofs.Frame.place_of.Statement.{statement}
+use Rattle.frame_record.proofs.Frame.place_of.Tie as tie
 
 abbrev Inv-loop : tie.InvT-loop
 Inv-loop id f count i₀ i = (i ≤ count) × (first entryId none (f .entries) id 0 (f .count) ≡ first entryId none (f .entries) id i (f .count - i))

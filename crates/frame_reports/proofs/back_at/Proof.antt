@@ -1,8 +1,8 @@
--- `frame_calls::back_at` meets its contract, case by case of where the job stands. Assumes nothing.
+-- `frame_reports::back_at` meets its contract, case by case of where the job stands. Assumes nothing.
 use mathlib.Core.Path.{sym, _∙_}
 use borrow.Author.Needs.{needs}
-use Rattle.frame_calls.proofs.back_at.Statement.{statement}
-use Rattle.frame_calls.proofs.back_at.Tie as tie
+use Rattle.frame_reports.proofs.back_at.Statement.{statement}
+use Rattle.frame_reports.proofs.back_at.Tie as tie
 
 enum-told : tie.Need-enum-told
 enum-told c = search needs

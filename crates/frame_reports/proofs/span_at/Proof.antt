@@ -1,8 +1,8 @@
--- `frame_calls::span_at` meets its contract: by the choice, and by whether the value is a number. Assumes nothing.
+-- `frame_reports::span_at` meets its contract: by the choice, and by whether the value is a number. Assumes nothing.
 use mathlib.Core.Path.{sym, _∙_}
 use borrow.Author.Needs.{needs}
-use Rattle.frame_calls.proofs.span_at.Statement.{statement}
-use Rattle.frame_calls.proofs.span_at.Tie as tie
+use Rattle.frame_reports.proofs.span_at.Statement.{statement}
+use Rattle.frame_reports.proofs.span_at.Tie as tie
 
 add-next : tie.Need-add-next
 add-next c = search needs

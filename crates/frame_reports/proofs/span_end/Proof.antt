@@ -1,12 +1,12 @@
--- `frame_calls::span_end` meets its contract: each refusal in turn. Assumes nothing.
+-- `frame_reports::span_end` meets its contract: each refusal in turn. Assumes nothing.
 use mathlib.Core.Path.{refl, _∙_}
 use native.Mathlib.Omega.{arith}
 use borrow.Author.Tests.{lt-ltb, le-ltb, eq-eqb, ne-eqb, not-true, not-false}
-use Rattle.frame_calls.specs.Calls.{spanStep}
+use Rattle.frame_reports.specs.Reports.{spanStep}
 use Rattle.frame_record.proofs.Laws.{is-open, open-fits, open-place}
 use borrow.Author.Needs.{needs}
-use Rattle.frame_calls.proofs.span_end.Statement.{statement}
-use Rattle.frame_calls.proofs.span_end.Tie as tie
+use Rattle.frame_reports.proofs.span_end.Statement.{statement}
+use Rattle.frame_reports.proofs.span_end.Tie as tie
 
 is-in-requires : tie.Need-is-in-requires
 is-in-requires c κs = search needs
