@@ -3,15 +3,15 @@
 ghost use mathlib.Core.Path.{_≡_};
 ghost use Rattle.frame_begin.specs.Begin.{beginStep};
 ghost use Rattle.frame_calls.specs.Calls.{eventStep};
-use frame::Answer;
-use frame::Event;
-use frame::Frame;
+use frame_record::Answer;
+use frame_record::Event;
+use frame_record::Frame;
 
 // Opens a frame with a table and a plan for it.
 pub fn begin_in(f: &mut Frame, table: &[u8], plan: &[u8], number: u32) -> Answer
     ensures { λ r. ⌜ record { answer = r; frame = now (f .exit) } ≡ beginStep (now (f .entry)) (now (table .entry)) (now (plan .entry)) number ⌝ }
 {
-    let s = Frame::begin(*f, table, plan, number);
+    let s = frame_begin::begin(*f, table, plan, number);
     *f = s.frame;
     s.answer
 }
@@ -20,7 +20,7 @@ pub fn begin_in(f: &mut Frame, table: &[u8], plan: &[u8], number: u32) -> Answer
 pub fn call_in(f: &mut Frame, e: Event) -> Answer
     ensures { λ r. ⌜ record { answer = r; frame = now (f .exit) } ≡ eventStep (now (f .entry)) e ⌝ }
 {
-    let s = Frame::step(*f, e);
+    let s = frame_calls::step(*f, e);
     *f = s.frame;
     s.answer
 }

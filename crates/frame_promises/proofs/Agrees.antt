@@ -18,8 +18,9 @@ use Rattle.plan.specs.declared.Step as plan
 use Rattle.plan.specs.Plans.{stepId, noStep}
 use Rattle.frame_record.specs.Sound.{entryAt, placeAt, entryId, open?}
 use Rattle.frame_record.specs.Listed.{MayStand, planEntry}
-use Rattle.frame_calls.specs.Calls.{judge, standing, moved, panelPlace, panelEntry}
-use Rattle.frame_calls.specs.Calls as step
+use Rattle.frame_record.specs.Sound.{panelPlace, panelEntry}
+use Rattle.frame_reports.specs.Reports.{judge, standing, moved}
+use Rattle.frame_calls.specs.Calls as calls
 use Rattle.frame_begin.specs.Begin.{awayIn, awayAt, entriesOf, placesOf, begun}
 use Rattle.frame_record.specs.declared.Phase.the-variants.{Idle, Open, Closed}
 use Rattle.frame_record.specs.declared.Standing.{Standing}
@@ -203,7 +204,7 @@ module _ (f : Frame) (fine : Fine f) (o : open? f ≡ true) (b : Last) (a : Agre
         (without-gone (b .out) id) (without-other (b .out) id) refl,
   )
 
-  pub is-closed : (t : ℕ) → Agrees (step.closed f t) (since b t (b .to-come) (b .out) (b .reports))
+  pub is-closed : (t : ℕ) → Agrees (calls.closed f t) (since b t (b .to-come) (b .out) (b .reports))
   is-closed t = record {
     numbered = a .numbered;
     clocked = refl;

@@ -22,10 +22,13 @@ use Rattle.judge.specs.Check.{afterPlan}
 use Rattle.frame_record.specs.Finite.{finite?}
 use Rattle.frame_record.specs.Sound.{none, entryAt, entryId, open?, ready?}
 use Rattle.frame_record.specs.Answers.{refused, done}
-use Rattle.frame_calls.specs.Calls.{asked, judge, moved, whereIs, panelPlace, panelEntry, onPanel, spanAt, spanStep, backAt, backTo}
-use Rattle.frame_calls.specs.Calls.{backStep, closed, closeStep, nextOf, readOf, eventStep}
+use Rattle.frame_record.specs.Sound.{whereIs, panelPlace, panelEntry}
+use Rattle.frame_reports.specs.Reports.{judge, moved, onPanel, spanAt, spanStep, backAt, backTo}
+use Rattle.frame_calls.specs.Calls.{asked}
+use Rattle.frame_reports.specs.Reports.{backStep}
+use Rattle.frame_calls.specs.Calls.{closed, closeStep, nextOf, readOf, eventStep}
 use Rattle.frame_begin.specs.Begin.{stepsIn, begun, mayOpen, beginChecked, beginRead, beginStep}
-use Rattle.frame_promises.specs.Call.{Call, begin, event, stepOf}
+use Rattle.frame_promises.specs.Call.{Call, begin, event, calledOf}
 use Rattle.frame_record.specs.declared.Standing.{Standing}
 use Rattle.frame_record.specs.declared.Standing.the-variants.{Waiting, Out, Held, Late}
 use Rattle.frame_record.specs.declared.Frame.{Frame}
@@ -118,6 +121,6 @@ module _ (f : Frame) (Q : Called → Type 0) where
     any-event (E.Close t) = close t
     any-event (E.Read id) = k .asks (readOf f id)
 
-    pub every-call : (c : Call) → Q (stepOf c f)
+    pub every-call : (c : Call) → Q (calledOf c f)
     every-call (begin table s n) = begins-with table s n
     every-call (event e) = any-event e

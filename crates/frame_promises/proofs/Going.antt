@@ -30,7 +30,7 @@ use Rattle.frame_promises.specs.Own.{Doing, doingAt, idAt, awayAt, value
 use Rattle.frame_promises.specs.Own.{other-number, is-refused, spanCall, backCall}
 use Rattle.frame_promises.proofs.Laws.{used-head, used-tail, without-other, report-same, report-other, in-table}
 
-module _ (number : ℕ) (t : JobTable) (xs : List Called) (p : Passed t xs) (ds : List Doing)
+module _ (number : ℕ) (t : JobTable) (xs : List Step) (p : Passed t xs) (ds : List Doing)
     (counted : length xs ≡ length ds) (step-is : (k : ℕ) → getD xs k noStep ≡ stepOf ((doingAt ds k) .took .what)) where
   abbrev D : ℕ
   D = t .deadline
@@ -39,7 +39,7 @@ module _ (number : ℕ) (t : JobTable) (xs : List Called) (p : Passed t xs) (ds 
   id-is k = ap stepId (step-is k)
 
   away-is : (k : ℕ) → (getD xs k noStep) .away ≡ awayAt ds k
-  away-is k = ap (λ (x : Called). x .away) (step-is k)
+  away-is k = ap (λ (x : Step). x .away) (step-is k)
 
   -- the ids of two jobs differ
   below-differ : (i k : ℕ) → i < k → k < length ds → idAt ds i ≡ idAt ds k → ⊥
@@ -88,10 +88,10 @@ module _ (number : ℕ) (t : JobTable) (xs : List Called) (p : Passed t xs) (ds 
     -- ---- the next span ends
 
     module _ (v : Float) (inside : n < length ds) (later : now ≤ spanTime ds n) (fits : spanTime ds n ≤ D) where
-      abbrev x : Called
+      abbrev x : Step
       x = getD xs n noStep
 
-      abbrev rest : List Called
+      abbrev rest : List Step
       rest = drop (n + 1) xs
 
       comes : b .to-come ≡ x ∷ rest
@@ -153,7 +153,7 @@ module _ (number : ℕ) (t : JobTable) (xs : List Called) (p : Passed t xs) (ds 
           below k h = omega arith
 
       -- what is answered, by what is to come
-      abbrev SpanSays : List Called → Type 0
+      abbrev SpanSays : List Step → Type 0
       SpanSays l =
           (onClock b (spanTime ds n) (spanEnds l (idAt ds n) v) ≡ done) × Going (n + 1) home (spanTime ds n) (spanEnded b (spanTime ds n) v l)
 

@@ -79,7 +79,7 @@ module _ {table plan : List ℕ} {t : JobTable} {cs : List Chosen} (w : Planned 
 
   is-passed : Passed t (stepsFor cs)
   is-passed =
-      subst (λ (o : Outcome (List Called)). Passed t (stepsIn o)) read-plan
+      subst (λ (o : Outcome (List Step)). Passed t (stepsIn o)) read-plan
       (passed t (accepted-good table t read-table) plan last busy-total after-plan)
 
   -- the jobs of a run are the plan's
@@ -133,7 +133,7 @@ only-reads b (u ∷ us) r = rw (step (u .call) (r .0 .1) (isAccepted (u .said)))
 
 -- ---- the frame's turns, one after the other
 
-module _ (number : ℕ) (t : JobTable) (xs : List Called) (p : Passed t xs) (ds : List Doing) (counted : length xs ≡ length ds)
+module _ (number : ℕ) (t : JobTable) (xs : List Step) (p : Passed t xs) (ds : List Doing) (counted : length xs ≡ length ds)
     (step-at : (k : ℕ) → getD xs k noStep ≡ stepOf ((doingAt ds k) .took .what))
     (fits : (k : ℕ) → k < length ds → backTime ds k ≤ t .deadline) (finite : (k : ℕ) → k < length ds → finite? (valueAt ds k) ≡ true) where
   abbrev Goes : ℕ → List ℕ → ℕ → Last → Type 0

@@ -19,9 +19,11 @@ use Rattle.frame_record.specs.Finite.{finite?}
 use Rattle.frame_record.specs.Sound.{none, entryAt, placeAt, entryId, first, sound?, open?}
 use Rattle.frame_record.specs.Listed.{MayStand, planEntry, Begun, SoundIn}
 use Rattle.frame_record.specs.Answers.{idle}
-use Rattle.frame_calls.specs.Calls.{judge, standing, moved, panelPlace, panelEntry, closed}
+use Rattle.frame_record.specs.Sound.{panelPlace, panelEntry}
+use Rattle.frame_reports.specs.Reports.{judge, standing, moved}
+use Rattle.frame_calls.specs.Calls.{closed}
 use Rattle.frame_begin.specs.Begin.{entryOf, entriesOf, position, stepPlace, placesOf, begun}
-use Rattle.frame_promises.specs.Call.{Call, stepOf, after, reached}
+use Rattle.frame_promises.specs.Call.{Call, calledOf, after, reached}
 use Rattle.frame_record.specs.declared.Phase.{Phase}
 use Rattle.frame_record.specs.declared.Standing.{Standing}
 use Rattle.frame_record.specs.declared.Standing.the-variants.{Waiting, Out, Held, Late}
@@ -238,7 +240,7 @@ module _ (f : Frame) (fine : Fine f) where
         was-out : (k : ℕ) → k < f .count → placeAt (f .order) k ≡ i → k < f .next
         was-out k q e = out-passed (f .number) k (f .next) (planEntry f k .away) (planEntry f k .standing) (rw e out) (b .stands k q)
 
-  pub call-fine : (c : Call) → FineAfter (stepOf c f)
+  pub call-fine : (c : Call) → FineAfter (calledOf c f)
   call-fine = every-call f FineAfter (record {
     refuses = λ r. fine;
     asks = λ a. fine;
@@ -254,7 +256,7 @@ module _ (f : Frame) (fine : Fine f) where
 after-fine : (cs : List Call) (f : Frame) → Fine f → Fine (after f cs)
 unfolding after
 after-fine [] f fine = fine
-after-fine (c ∷ cs) f fine = after-fine cs ((stepOf c f) .frame) (call-fine f fine c)
+after-fine (c ∷ cs) f fine = after-fine cs ((calledOf c f) .frame) (call-fine f fine c)
 
 pub idle-fine : Fine idle
 idle-fine = record { sound = sound-made idle tt; sized = length-replicate 32 none }

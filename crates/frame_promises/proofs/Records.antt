@@ -10,7 +10,7 @@ use Rattle.frame_record.specs.Sound.{sound?}
 use Rattle.frame_record.specs.Listed.{SoundFrame}
 use Rattle.frame_record.specs.Answers.{answerSays, says}
 use Rattle.frame_calls.specs.Calls.{asked}
-use Rattle.frame_promises.specs.Call.{Call, begin, event, stepOf}
+use Rattle.frame_promises.specs.Call.{Call, begin, event, calledOf}
 use Rattle.frame_record.specs.declared.Answer.{Answer}
 use Rattle.frame_record.specs.declared.Event.{Event}
 use Rattle.frame_record.specs.declared.Event.the-variants as E
@@ -24,7 +24,7 @@ use Rattle.frame_promises.specs.Runs.{Starts, Allows, Reaches, SoundAllo
 use Rattle.frame_promises.specs.Lent.{LentAllows}
 
 module _ (f : Frame) where
-  is-step : (c : Call) (s : Called) → Allows f c s → s ≡ stepOf c f
+  is-step : (c : Call) (s : Called) → Allows f c s → s ≡ calledOf c f
   is-step (begin table plan n) s e = e
   is-step (event x) s e = e
 
@@ -63,7 +63,7 @@ pub lent-left : (f : Frame) (c : Call) (s : Called) → LentAllows f c s → 1 �
 lent-left f (begin table plan n) s allows = refused-left f (begin table plan n) s allows
 lent-left f (event e) s allows = refused-left f (event e) s allows
 
--- the functions for single calls answer what `Frame::step` answers to that event, and leave the record that it leaves
+-- the functions for single calls answer what `frame_calls::step` answers to that event, and leave the record that it leaves
 pub ask-is-step : (f : Frame) (e : Event) (r : Answer) → AskAllows f e r → Allows f (event e) (record { answer = r; frame = f })
 ask-is-step f E.Next r allows = ap (asked f) allows
 ask-is-step f (E.Read id) r allows = ap (asked f) allows

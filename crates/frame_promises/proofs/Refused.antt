@@ -11,9 +11,10 @@ use Rattle.table.specs.declared.refusal.Refusal.{Refusal}
 use Rattle.table.specs.declared.refusal.Refusal.the-variants as R
 use Rattle.frame_record.specs.Sound.{sound?, open?, begun?, ready?}
 use Rattle.frame_record.specs.Answers.{says, answerSays, refused, done}
-use Rattle.frame_calls.specs.Calls.{spanStep, backStep, closeStep, nextOf, readOf, eventStep}
+use Rattle.frame_reports.specs.Reports.{spanStep, backStep}
+use Rattle.frame_calls.specs.Calls.{closeStep, nextOf, readOf, eventStep}
 use Rattle.frame_begin.specs.Begin.{beginStep}
-use Rattle.frame_promises.specs.Call.{Call, begin, event, stepOf}
+use Rattle.frame_promises.specs.Call.{Call, begin, event, calledOf}
 use Rattle.frame_record.specs.declared.Frame.{Frame}
 use Rattle.frame_record.specs.declared.Answer.{Answer}
 use Rattle.frame_record.specs.declared.Answer.the-variants.{Done, Panel, Rest, Read, Refused}
@@ -31,7 +32,7 @@ module _ (f : Frame) where
   does g r e = clash (cc)
 
   -- a refused call leaves the record as it was
-  pub refused-leaves : (c : Call) → Leaves (stepOf c f)
+  pub refused-leaves : (c : Call) → Leaves (calledOf c f)
   refused-leaves = every-call f Leaves (record {
     refuses = λ q r e. refl;
     asks = λ a r e. refl;
@@ -43,7 +44,7 @@ module _ (f : Frame) where
   })
 
   module _ (c : Call) where
-    leaves : (a : Answer) → (stepOf c f) .answer ≡ a → 1 ≤ getD (answerSays a .numbers) 0 0 → (stepOf c f) .frame ≡ f
+    leaves : (a : Answer) → (calledOf c f) .answer ≡ a → 1 ≤ getD (answerSays a .numbers) 0 0 → (calledOf c f) .frame ≡ f
     leaves Done e h = absurd (omega arith)
     leaves (Panel i b) e h = absurd (omega arith)
     leaves Rest e h = absurd (omega arith)
@@ -51,8 +52,8 @@ module _ (f : Frame) where
     leaves (Refused r) e h = refused-leaves c r e
 
     -- and so one that is answered by a number above 0
-    pub number-leaves : 1 ≤ getD (answerSays ((stepOf c f) .answer) .numbers) 0 0 → (stepOf c f) .frame ≡ f
-    number-leaves h = leaves ((stepOf c f) .answer) refl h
+    pub number-leaves : 1 ≤ getD (answerSays ((calledOf c f) .answer) .numbers) 0 0 → (calledOf c f) .frame ≡ f
+    number-leaves h = leaves ((calledOf c f) .answer) refl h
 
 -- an unsound record answers PHASE to every call and stays as found
 module _ (f : Frame) (unsound : sound? f ≡ false) where
@@ -76,12 +77,12 @@ module _ (f : Frame) (unsound : sound? f ≡ false) where
   unsound-event (E.Close t) = rw not-open
   unsound-event (E.Read id) = rw not-begun
 
-  pub unsound-phase : (c : Call) → stepOf c f ≡ refused R.Phase f
+  pub unsound-phase : (c : Call) → calledOf c f ≡ refused R.Phase f
   unfolding beginStep
   unsound-phase (begin table plan n) = rw not-ready
   unsound-phase (event e) = unsound-event e
 
-  pub unsound-twelve : (c : Call) → (answerSays ((stepOf c f) .answer) ≡ says (12 ∷ [])) × ((stepOf c f) .frame ≡ f)
+  pub unsound-twelve : (c : Call) → (answerSays ((calledOf c f) .answer) ≡ says (12 ∷ [])) × ((calledOf c f) .frame ≡ f)
   unsound-twelve c =
       let same = unsound-phase c in
       (ap (λ (s : Called). answerSays (s .answer)) same, ap (λ (s : Called). s .frame) same)

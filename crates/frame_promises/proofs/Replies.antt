@@ -4,7 +4,7 @@ use Prim.Native.Nat.{ℕ}
 use mathlib.Core.Path.{_≡_, refl, sym, _∙_, ap, subst}
 use mathlib.Core.List.{List, [], _∷_, _++_, map, append-assoc, append-nil}
 use Rattle.frame_record.specs.Answers.{Reply, answerSays}
-use Rattle.frame_promises.specs.Call.{Call, begin, event, stepOf}
+use Rattle.frame_promises.specs.Call.{Call, begin, event, calledOf}
 use Rattle.frame_record.specs.declared.Frame.{Frame}
 use Rattle.frame_record.specs.declared.Event.the-variants as E
 use Rattle.frame_record.specs.declared.Called.{Called}
@@ -16,7 +16,7 @@ use Rattle.frame_promises.proofs.Told.{fits, clear}
 use Rattle.frame_promises.proofs.Since.{Traced, turn-on}
 
 -- what the contract allows is the step
-allowed : (f : Frame) (c : Call) (s : Called) → Allows f c s → s ≡ stepOf c f
+allowed : (f : Frame) (c : Call) (s : Called) → Allows f c s → s ≡ calledOf c f
 allowed f (begin table plan n) s e = e
 allowed f (event x) s e = e
 
@@ -32,7 +32,7 @@ module _ (ts : List Turn) (h : History) (t : Turn) (rest : List Turn) (r : Arriv
   abbrev next : Called
   next = r .runs .0
 
-  is-next : next ≡ stepOf (t .call) (r .at)
+  is-next : next ≡ calledOf (t .call) (r .at)
   is-next = allowed (r .at) (t .call) next (r .runs .1)
 
   answered : t .said ≡ reply h (t .call)

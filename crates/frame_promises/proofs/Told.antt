@@ -29,11 +29,13 @@ use Rattle.frame_record.specs.Finite.{finite?}
 use Rattle.frame_record.specs.Sound as S
 use Rattle.frame_record.specs.Sound.{entryAt, entryId, open?, begun?, ready?}
 use Rattle.frame_record.specs.Answers.{Reply, says, answerSays, refused}
-use Rattle.frame_calls.specs.Calls.{judge, moved, whereIs, panelEntry, spanAt, spanStep, backAt, backTo, backStep}
+use Rattle.frame_record.specs.Sound.{whereIs, panelEntry}
+use Rattle.frame_reports.specs.Reports.{judge, moved, spanAt, spanStep, backAt, backTo, backStep}
 use Rattle.frame_calls.specs.Calls.{closeStep, readingOf, readAt, readOf, nextOf}
-use Rattle.frame_calls.specs.Calls as step
+use Rattle.frame_record.specs.Answers as answers
+use Rattle.frame_calls.specs.Calls as calls
 use Rattle.frame_begin.specs.Begin.{stepsIn, begun, mayOpen, beginChecked, beginRead, beginStep}
-use Rattle.frame_promises.specs.Call.{Call, begin, event, stepOf}
+use Rattle.frame_promises.specs.Call.{Call, begin, event, calledOf}
 use Rattle.frame_record.specs.declared.Phase.{Phase}
 use Rattle.frame_record.specs.declared.Phase.the-variants.{Idle, Open, Closed}
 use Rattle.frame_record.specs.declared.Standing.{Standing}
@@ -99,7 +101,7 @@ module _ (f : Frame) (fine : Fine f) where
 
   -- ---- a read
 
-  module _ (b : Last) (a : Agrees f b) (unreported : Reply) (says-so : answerSays (Read (step.unreported (f .phase))) ≡ unreported) where
+  module _ (b : Last) (a : Agrees f b) (unreported : Reply) (says-so : answerSays (Read (calls.unreported (f .phase))) ≡ unreported) where
     heard :
         (p : Phase) (x : Report) (w : Bool) →
         answerSays (Read (readingOf p (cond w (stands.Held (record { value = x .value; frame = b .number })) stands.Late))) ≡
@@ -142,7 +144,7 @@ module _ (f : Frame) (fine : Fine f) where
     refuses : (c : Call) (r : Refusal) → Fits c H (refused r f) (says (refusalSays r))
     refuses c r = (refl, rw (refused-told H c r) (is, a))
 
-    clock : (c : Call) (t : ℕ) (x : Called) (p : Reply) → Fits c H x p → Fits c H (step.onClock f t x) (onClock b t p)
+    clock : (c : Call) (t : ℕ) (x : Called) (p : Reply) → Fits c H x p → Fits c H (answers.onClock f t x) (onClock b t p)
     clock c t x p e = both c H (ltb t (f .clock)) (ltb t (b .clock)) (ap (ltb t) (a .clocked)) _ _ _ _ (λ _. refuses c R.Clock) (λ _. e)
 
     -- a call that only asks changes nothing, whatever it is answered
@@ -150,7 +152,7 @@ module _ (f : Frame) (fine : Fine f) where
     unchanged c e r true q = rw e (is, a)
     unchanged c e r false q = (is, a)
 
-    asked : (g : Answer) (r : Reply) → answerSays g ≡ r → (e : Event) → accepts H (event e) ≡ H → Fits (event e) H (step.asked f g) r
+    asked : (g : Answer) (r : Reply) → answerSays g ≡ r → (e : Event) → accepts H (event e) ≡ H → Fits (event e) H (calls.asked f g) r
     asked g r said e stays = (said, unchanged (event e) stays r (isAccepted r) refl)
 
     -- what is to come, by whether a job is on the panel
@@ -216,7 +218,7 @@ module _ (f : Frame) (fine : Fine f) where
 
       taken :
           (i : ℕ) → i < f .count → entryAt (f .entries) i .id ≡ id →
-          Fits B H (step.done (moved f i t (f .next) (judge v (f .number) t (f .deadline)))) done
+          Fits B H (answers.done (moved f i t (f .next) (judge v (f .number) t (f .deadline)))) done
       taken i h named = (refl, comes-back f fine o b a is i h n id t v named)
 
       -- one that is not out is refused WHO
@@ -253,7 +255,7 @@ module _ (f : Frame) (fine : Fine f) where
           (both B H (eqb n (f .number)) (eqb n (b .number)) (ap (eqb n) (a .numbered)) _ _ _ _
           (λ _. clock B t _ _ (back-to (whereIs f id) refl)) (λ _. refuses B R.Number))
 
-    shut : (t : ℕ) → Fits (event (E.Close t)) H (step.done (step.closed f t)) done
+    shut : (t : ℕ) → Fits (event (E.Close t)) H (answers.done (calls.closed f t)) done
     shut t = (refl, (refl, is-closed f fine o b a t))
 
     close-fits : (t : ℕ) → Fits (event (E.Close t)) H (closeStep f t) (closes b t)
@@ -264,7 +266,7 @@ module _ (f : Frame) (fine : Fine f) where
         (clock c t _ _ (both c H (ltb t (f .deadline)) (ltb t (b .table .deadline)) (ap (ltb t) (a .due)) _ _ _ _
         (λ _. refuses c R.Early) (λ _. shut t)))
 
-    open-fits : (e : Event) → Fits (event e) H (step.eventStep f e) (inOpen b e)
+    open-fits : (e : Event) → Fits (event e) H (calls.eventStep f e) (inOpen b e)
     open-fits E.Next = asked (nextOf f) (nexts (b .to-come)) next-said E.Next refl
     open-fits (E.SpanEnd id t v) = span-fits id t v
     open-fits (E.Return n id t v) = back-fits n id t v
@@ -308,7 +310,7 @@ module _ (f : Frame) (fine : Fine f) where
     phase : (c : Call) → Fits c h (refused R.Phase f) (refuse 12)
     phase c = (refl, a)
 
-    next-shut : Fits (event E.Next) h (step.asked f (nextOf f)) (refuse 12)
+    next-shut : Fits (event E.Next) h (calls.asked f (nextOf f)) (refuse 12)
     unfolding nextOf
     next-shut = rw shut (phase (event E.Next))
 
@@ -324,11 +326,11 @@ module _ (f : Frame) (fine : Fine f) where
     unfolding closeStep
     close-shut t = rw shut (phase (event (E.Close t)))
 
-  idle-read : f .phase ≡ Idle → (id : ℕ) → Fits (event (E.Read id)) idle (step.asked f (readOf f id)) (refuse 12)
+  idle-read : f .phase ≡ Idle → (id : ℕ) → Fits (event (E.Read id)) idle (calls.asked f (readOf f id)) (refuse 12)
   unfolding readOf
   idle-read a id = rw (begun-is Idle a) (refl, a)
 
-  idle-fits : f .phase ≡ Idle → (e : Event) → Fits (event e) idle (step.eventStep f e) (refuse 12)
+  idle-fits : f .phase ≡ Idle → (e : Event) → Fits (event e) idle (calls.eventStep f e) (refuse 12)
   idle-fits a E.Next = next-shut idle a (open-is Idle a)
   idle-fits a (E.SpanEnd id t v) = span-shut idle a (open-is Idle a) id t v
   idle-fits a (E.Return n id t v) = back-shut idle a (open-is Idle a) n id t v
@@ -343,7 +345,7 @@ module _ (f : Frame) (fine : Fine f) where
     closed-read r true e = a
     closed-read r false e = a
 
-    closed-fits : (e : Event) → Fits (event e) (closed b) (step.eventStep f e) (inClosed b e)
+    closed-fits : (e : Event) → Fits (event e) (closed b) (calls.eventStep f e) (inClosed b e)
     closed-fits E.Next = next-shut (closed b) a no
     closed-fits (E.SpanEnd id t v) = span-shut (closed b) a no id t v
     closed-fits (E.Return n id t v) = back-shut (closed b) a no n id t v
@@ -373,7 +375,7 @@ module _ (f : Frame) (fine : Fine f) where
 
     begun-fits :
         (t : JobTable) → readTable table ≡ accepted t → (last busy : ℕ) → afterPlan t (readPlan s) ≡ Passes last busy →
-        Fits N h (step.done (begun number t (stepsIn (readPlan s)))) done
+        Fits N h (answers.done (begun number t (stepsIn (readPlan s)))) done
     begun-fits t e last busy ok = (refl, rw e (opened-by t e (readPlan s) refl last busy ok))
 
     checked-fits :
@@ -397,7 +399,7 @@ module _ (f : Frame) (fine : Fine f) where
 
   -- ---- every call
 
-  pub fits : (h : History) → Tells f h → (c : Call) → Fits c h (stepOf c f) (reply h c)
+  pub fits : (h : History) → Tells f h → (c : Call) → Fits c h (calledOf c f) (reply h c)
   fits idle a (begin table s n) = begin-fits idle a table s n true (rw a) (ready-is Idle a)
   fits idle a (event e) = idle-fits a e
   fits (opened b) a (begin table s n) = open-begin b a table s n

@@ -13,14 +13,14 @@ pub data Call : Type 0 where
   begin : (table plan : List ℕ) (number : ℕ) → Call
   event : Event → Call
 
-abbrev pub stepOf : Call → Frame → Called
-stepOf (begin table plan number) f = beginStep f table plan number
-stepOf (event e) f = eventStep f e
+abbrev pub calledOf : Call → Frame → Called
+calledOf (begin table plan number) f = beginStep f table plan number
+calledOf (event e) f = eventStep f e
 
 -- the record after calls, one after the other
 unfoldable pub after : Frame → List Call → Frame
 after f [] = f
-after f (c ∷ cs) = after ((stepOf c f) .frame) cs
+after f (c ∷ cs) = after ((calledOf c f) .frame) cs
 
 abbrev pub reached : List Call → Frame
 reached cs = after idle cs

@@ -39,7 +39,7 @@ pub record Last : Type 0 where
   pub number : ℕ
   pub table : JobTable
   -- the steps of its plan whose spans have not ended, the first of them "now on the panel"; the ids of the jobs that are "out"
-  pub to-come : List Called
+  pub to-come : List Step
   pub out : List ℕ
   -- the reports accepted, the latest first; "the time of the last accepted event"
   pub reports : List Report
@@ -65,7 +65,7 @@ begins (Fails r) above = says (refusalSays r)
 begins (Passes last busy) above = cond above done (refuse 13)
 
 -- "Next: PHASE unless open; else the job now on the panel with its choice, or none left."
-abbrev pub nexts : List Called → Reply
+abbrev pub nexts : List Step → Reply
 nexts [] = says (0 ∷ 0 ∷ [])
 nexts (x ∷ xs) = says (0 ∷ 1 ∷ x .id ∷ cond (x .away) 1 0 ∷ [])
 
@@ -78,7 +78,7 @@ abbrev pub valued : Float → Reply
 valued v = cond (finite? v) done (refuse 16)
 
 -- "Span end: PHASE unless open; CLOCK; WHO unless it is the job now on the panel; for a here job VALUE."
-abbrev pub spanEnds : List Called → ℕ → Float → Reply
+abbrev pub spanEnds : List Step → ℕ → Float → Reply
 spanEnds [] id v = refuse 15
 spanEnds (x ∷ xs) id v = cond (eqb (x .id) id) (cond (x .away) done (valued v)) (refuse 15)
 
@@ -134,12 +134,12 @@ reply (closed b) (event e) = inClosed b e
 -- ---- what a call that is accepted adds
 
 -- "Opens with the time at 0 and no values": what was before is gone
-abbrev pub opens : ℕ → Outcome JobTable → Outcome (List Called) → History → History
+abbrev pub opens : ℕ → Outcome JobTable → Outcome (List Step) → History → History
 opens number (accepted t) (accepted xs) h = opened (record { number = number; table = t; to-come = xs; out = []; reports = []; clock = 0 })
 opens number (accepted t) (refused r) h = h
 opens number (refused r) plan h = h
 
-abbrev pub since : Last → ℕ → List Called → List ℕ → List Report → Last
+abbrev pub since : Last → ℕ → List Step → List ℕ → List Report → Last
 since b t to-come out reports = record {
   number = b .number;
   table = b .table;
@@ -150,7 +150,7 @@ since b t to-come out reports = record {
 }
 
 -- "A here job gets its value ... An away job is now out, its value argument ignored. The next job starts at this time."
-abbrev pub spanEnded : Last → ℕ → Float → List Called → Last
+abbrev pub spanEnded : Last → ℕ → Float → List Step → Last
 spanEnded b t v [] = b
 spanEnded b t v (x ∷ xs) =
     since b t xs (cond (x .away) (x .id ∷ b .out) (b .out))

@@ -26,7 +26,7 @@ abbrev pub NoBegin : Turn → Type 0
 NoBegin t = (table plan : List ℕ) (number : ℕ) → t .call ≡ begin table plan number → isAccepted (t .said) ≡ true → ⊥
 
 -- the last accepted begin: its number, the table and the plan that its bytes are, and the turns since
-pub record LastBegin (ts : List Turn) (number : ℕ) (jobs : JobTable) (steps : List Called) (since : List Turn) : Type 0 where
+pub record LastBegin (ts : List Turn) (number : ℕ) (jobs : JobTable) (steps : List Step) (since : List Turn) : Type 0 where
   pub before : List Turn
   pub turn : Turn
   pub table : List ℕ
@@ -39,13 +39,13 @@ pub record LastBegin (ts : List Turn) (number : ℕ) (jobs : JobTable) (steps : 
   pub last : All NoBegin since
 
 -- "an accepted report for that job": a return with the frame's number, or the end of its span where the plan has it run here
-pub data Reported (since : List Turn) (steps : List Called) (number id time : ℕ) (v : Float) : Type 0 where
+pub data Reported (since : List Turn) (steps : List Step) (number id time : ℕ) (v : Float) : Type 0 where
   by-return : Did (event (E.Return number id time v)) since → Reported since steps number id time v
   by-span :
       List·Memᴰ (record { id = id; away = false }) steps → Did (event (E.SpanEnd id time v)) since →
       Reported since steps number id time v
 
-abbrev pub Unreported : List Turn → List Called → (number id : ℕ) → Type 0
+abbrev pub Unreported : List Turn → List Step → (number id : ℕ) → Type 0
 Unreported since steps number id = (time : ℕ) (v : Float) → Reported since steps number id time v → ⊥
 
 abbrev pub IsClosed : List Turn → Type 0
@@ -58,28 +58,28 @@ Has js id = (j : Job) × List·Memᴰ j js × (j .id ≡ id)
 pub data ReadSays (ts : List Turn) (id : ℕ) : Reply → Type 0 where
   never-begun : All NoBegin ts → ReadSays ts id (refuse 12)
   no-job :
-      {number : ℕ} {jobs : JobTable} {steps : List Called} {since : List Turn} → LastBegin ts number jobs steps since →
+      {number : ℕ} {jobs : JobTable} {steps : List Step} {since : List Turn} → LastBegin ts number jobs steps since →
       (Has (jobs .jobs) id → ⊥) → ReadSays ts id (refuse 15)
   is-fresh :
-      {number : ℕ} {jobs : JobTable} {steps : List Called} {since : List Turn} → LastBegin ts number jobs steps since →
+      {number : ℕ} {jobs : JobTable} {steps : List Step} {since : List Turn} → LastBegin ts number jobs steps since →
       Has (jobs .jobs) id → {time : ℕ} {v : Float} → Reported since steps number id time v → time ≤ jobs .deadline →
       ReadSays ts id (fresh number v)
   is-pending :
-      {number : ℕ} {jobs : JobTable} {steps : List Called} {since : List Turn} → LastBegin ts number jobs steps since →
+      {number : ℕ} {jobs : JobTable} {steps : List Step} {since : List Turn} → LastBegin ts number jobs steps since →
       Has (jobs .jobs) id → Unreported since steps number id → (IsClosed since → ⊥) → ReadSays ts id (says (0 ∷ 1 ∷ []))
   is-late :
-      {number : ℕ} {jobs : JobTable} {steps : List Called} {since : List Turn} → LastBegin ts number jobs steps since →
+      {number : ℕ} {jobs : JobTable} {steps : List Step} {since : List Turn} → LastBegin ts number jobs steps since →
       Has (jobs .jobs) id → {time : ℕ} {v : Float} → Reported since steps number id time v → jobs .deadline < time →
       ReadSays ts id (says (0 ∷ 2 ∷ []))
   is-missing :
-      {number : ℕ} {jobs : JobTable} {steps : List Called} {since : List Turn} → LastBegin ts number jobs steps since →
+      {number : ℕ} {jobs : JobTable} {steps : List Step} {since : List Turn} → LastBegin ts number jobs steps since →
       Has (jobs .jobs) id → Unreported since steps number id → IsClosed since → ReadSays ts id (says (0 ∷ 3 ∷ []))
 
 -- "each fresh reading gives the value of an accepted report for that job, sent for the frame whose number is read, at a time not after the
 -- deadline": accepted after the begin of that frame, the last one accepted, and not after the deadline of the table that it was begun with
 pub record Behind (ts : List Turn) (id number : ℕ) (v : Float) : Type 0 where
   pub jobs : JobTable
-  pub steps : List Called
+  pub steps : List Step
   pub since : List Turn
   pub begun : LastBegin ts number jobs steps since
   pub time : ℕ

@@ -1,4 +1,4 @@
--- `lend::begin_in` meets its contract: a walk of its MIR, by hand. The borrow is opened, the whole record is loaded and passed to `Frame::begin`, of which only the contract is known; the record of the step that it returns is stored over the old one, and the borrow is closed there.
+-- `frame_lent::begin_in` meets its contract: a walk of its MIR, by hand. The borrow is opened, the whole record is loaded and passed to `Frame::begin`, of which only the contract is known; the record of the step that it returns is stored over the old one, and the borrow is closed there.
 -- Assumes nothing.
 use mathlib.Core.Path.{_≡_, refl, ap, subst}
 use Prim.Native.Nat.{ℕ, _<_, _^_}
@@ -176,4 +176,4 @@ begin-in-spec 𝓤 H 𝓜 𝓖 𝓡 =
     entered 𝓤 H (tripleOf 𝓤 H (𝓖 .A) self.signature (self.spec 𝓤 H (𝓖 .A) (𝓜 .mem) (𝓡 .run)))
     (tables 𝓤 H 𝓜 𝓡 code.env .C) (tables 𝓤 H 𝓜 𝓡 code.env .Λ) #self code.function (code.unfolded 𝓤 H 𝓜 𝓡)
     (self-meets 𝓤 H (𝓖 .A) (givenOf 𝓤 H 𝓜 𝓖) (𝓜 .mem) (𝓡 .run) (tablesOf 𝓤 H 𝓜 (tables 𝓤 H 𝓜 𝓡 code.env))
-    (cited 𝓤 H (Stepped 𝓤 H (𝓖 .A) (𝓜 .mem) (𝓡 .run)) 𝓜 𝓡 code.env #step step-def.routine code.calls-frame·Frame·begin (step-thm.met 𝓤 H 𝓜 𝓖 𝓡)))
+    (cited 𝓤 H (Stepped 𝓤 H (𝓖 .A) (𝓜 .mem) (𝓡 .run)) 𝓜 𝓡 code.env #step step-def.routine code.calls-frame-begin·begin (step-thm.met 𝓤 H 𝓜 𝓖 𝓡)))
