@@ -10,6 +10,7 @@ ghost use Rattle.frame_record.specs.Finite.{finite?};
 ghost use Rattle.frame_record.specs.Sound.{whereIs, okEntry, okFrom, okBegun, sound?, phaseIn};
 ghost use Rattle.frame_record.specs.Answers.{idle, refused};
 
+// Before any frame, during one, after one.
 pub enum Phase {
     Idle,
     Open,
@@ -30,6 +31,7 @@ pub enum Standing {
     Late,
 }
 
+// What a read says of a job: only a fresh reading carries a value.
 pub enum Reading {
     Fresh(Sample),
     Pending,
@@ -37,6 +39,7 @@ pub enum Reading {
     Missing,
 }
 
+// A job of the table: whether the plan sends it away, and where it stands.
 pub struct Entry {
     pub id: u8,
     pub away: bool,
@@ -55,6 +58,7 @@ pub struct Frame {
     pub entries: [Entry; Table::MOST_JOBS],
 }
 
+// What a call is answered; specs/Answers.antt has the numbers that it says.
 pub enum Answer {
     Done,
     Panel(u8, bool),
@@ -63,6 +67,7 @@ pub enum Answer {
     Refused(Refusal),
 }
 
+// What a call gives: its answer, and the record afterwards.
 pub struct Called {
     pub answer: Answer,
     pub frame: Frame,

@@ -24,9 +24,10 @@ refuse-requires-2 c κs = search needs
 returns-2 : tie.Need-returns-2
 unfolding backStep
 returns-2 c =
+    let a = c .before .before .before .before .args in
     simp (
       is-open _ _ (c .before .before .before .is-in .ensures) ∙ not-false _ (c .before .before .if1 .left),
-      ne-eqb _ _ (c .before .if2 .taken),
+      ne-eqb (a .number) (a .t1 .number) (λ same. omega (arith, same, c .before .if2 .taken)),
     )
     (c .refuse2 .ensures)
 
@@ -36,9 +37,10 @@ refuse-requires-3 c κs = search needs
 returns-3 : tie.Need-returns-3
 unfolding backStep
 returns-3 c =
+    let a = c .before .before .before .before .before .args in
     simp (
       is-open _ _ (c .before .before .before .before .is-in .ensures) ∙ not-false _ (c .before .before .before .if1 .left),
-      eq-eqb _ _ (c .before .before .if2 .left),
+      eq-eqb (a .number) (a .t1 .number) (omega (arith, c .before .before .if2 .left)),
       lt-ltb _ _ (c .before .if3 .taken),
     )
     (c .refuse3 .ensures)
@@ -77,7 +79,9 @@ unfolding backStep
 returns-4 c =
     let i = c .before .before .before .before .before .before .before .before in
     let opened = is-open _ _ (i .before .is-in .ensures) ∙ not-false _ (i .if1 .left) in
-    let number = eq-eqb _ _ (c .before .before .before .before .before .before .before .if2 .left) in
+    let a = i .before .before .args in
+    let left = c .before .before .before .before .before .before .before .if2 .left in
+    let number = eq-eqb (a .number) (a .t1 .number) (omega (arith, left)) in
     let clock = le-ltb _ _ (c .before .before .before .before .before .before .if3 .left) in
     let found = sym (c .before .before .before .before .before .place-of .ensures) ∙ c .before .before .before .found .given .1 in
     simp (opened, number, clock, found) (c .back-at .ensures)
@@ -93,7 +97,9 @@ unfolding backStep
 returns-5 c =
     let i = c .before .before .before .before .before .before in
     let opened = is-open _ _ (i .before .is-in .ensures) ∙ not-false _ (i .if1 .left) in
-    let number = eq-eqb _ _ (c .before .before .before .before .before .if2 .left) in
+    let a = i .before .before .args in
+    let left = c .before .before .before .before .before .if2 .left in
+    let number = eq-eqb (a .number) (a .t1 .number) (omega (arith, left)) in
     let clock = le-ltb _ _ (c .before .before .before .before .if3 .left) in
     let found = sym (c .before .before .before .place-of .ensures) ∙ c .before .enum-told .given .1 in
     simp (opened, number, clock, found) (c .refuse4 .ensures)
