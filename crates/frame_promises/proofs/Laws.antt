@@ -15,9 +15,9 @@ use Rattle.table.specs.declared.refusal.Refusal.{Refusal}
 use Rattle.table.specs.Refusals.{refusalSays}
 use Rattle.table.proofs.Refusals.{says-numbered}
 use Rattle.lookup.specs.Lookup.{jobOf, withId}
-use Rattle.frame.specs.Step.{says}
-use Rattle.frame.specs.Run.{Call}
-use Rattle.frame.proofs.Laws.{false-true}
+use Rattle.frame_record.specs.Answers.{says}
+use Rattle.frame_promises.specs.Call.{Call}
+use Rattle.frame_record.proofs.Laws.{false-true}
 use Rattle.frame_promises.specs.History.{Report, History, isAccepted, told, reportOf, without}
 
 -- a refused call is not accepted, and changes nothing

@@ -18,9 +18,9 @@ use Rattle.table.specs.Tables.{JobTable, readTable}
 use Rattle.lookup.specs.Lookup.{jobOf, withId}
 use Rattle.plan.specs.declared.Step as plan
 use Rattle.plan.specs.Plans.{readPlan}
-use Rattle.frame.specs.Step.{Reply, says}
-use Rattle.frame.specs.Run.{begin, event}
-use Rattle.frame.specs.declared.Event.the-variants as E
+use Rattle.frame_record.specs.Answers.{Reply, says}
+use Rattle.frame_promises.specs.Call.{begin, event}
+use Rattle.frame_record.specs.declared.Event.the-variants as E
 use Rattle.frame_promises.specs.History.{Turn, Report, Last, History, idle, opened, closed, fresh, reading, readIn, reads, reply}
 use Rattle.frame_promises.specs.History.{isAccepted, history, reportOf}
 use Rattle.frame_promises.specs.Runs.{FromIdle}

@@ -22,11 +22,11 @@ use Rattle.plan.specs.Plans.{stepId, readPlan}
 use Rattle.plan.proofs.Plans.{accepted-plan}
 use Rattle.judge.specs.Check.{afterPlan, afterTable, checkPlan}
 use Rattle.judge.proofs.Jobs.{perm-members}
-use Rattle.frame.specs.Step.{Reply, says}
-use Rattle.frame.specs.Run.{Call, begin, event}
-use Rattle.frame.specs.declared.Event.{Event}
-use Rattle.frame.specs.declared.Event.the-variants as E
-use Rattle.frame.proofs.Laws.{false-true}
+use Rattle.frame_record.specs.Answers.{Reply, says}
+use Rattle.frame_promises.specs.Call.{Call, begin, event}
+use Rattle.frame_record.specs.declared.Event.{Event}
+use Rattle.frame_record.specs.declared.Event.the-variants as E
+use Rattle.frame_record.proofs.Laws.{false-true}
 use Rattle.frame_promises.specs.History.{Turn, Report, Last, History, idle, opened, closed, refuse, begins, onClock, spanEnds, returns}
 use Rattle.frame_promises.specs.History.{reply}
 use Rattle.frame_promises.specs.History.{opens, since, spanEnded, happens, accepts, isAccepted, told, reportOf}

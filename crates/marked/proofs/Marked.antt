@@ -8,7 +8,7 @@ use Rattle.table.specs.Tables.{frameAt, jobAt, jobsRead, readTable}
 use Rattle.lookup.specs.Lookup.{withId}
 use Rattle.plan.specs.Plans.{planBytes, readPlan, recordAt}
 use Rattle.judge.specs.Check.{listed, lacksOne, checkPlan}
-use Rattle.frame.specs.declared.Reading.the-variants.{Fresh, Late}
+use Rattle.frame_record.specs.declared.Reading.the-variants.{Fresh, Late}
 use Rattle.frame_promises.specs.History.{replies, reportOf, without}
 use Rattle.marked.specs.Marked.{either, stays, stayFrom, framed, E, planE, turned, one, upTo, marked, AllHold}
 use Rattle.marked.proofs.Cases.{plan-case, none-case, given-case, least-case}
