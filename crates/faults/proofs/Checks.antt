@@ -26,7 +26,7 @@ use Rattle.table.specs.Refusals.{Outcome, accepted, refused}
 use Rattle.table.specs.Records.{used}
 use Rattle.table.specs.Tables.{JobTable, GoodTable, jobId}
 use Rattle.table.proofs.Listed.{Distinct, unused-differs, differs-unused}
-use Rattle.lookup.specs.Lookup.{jobOf, withId}
+use Rattle.lookup.specs.Lookup.{jobOf, withKey}
 use Rattle.lookup.proofs.Lookup.{with-own}
 use Rattle.plan.specs.declared.Step.{Step}
 use Rattle.plan.specs.Plans.{stepId, stepsFor}
@@ -83,7 +83,7 @@ steps-are js (x ∷ xs) h =
 
 -- no job has the id
 job-none : (js : List Job) (id : ℕ) → All (λ (j : Job). ¬ (j .id ≡ id)) js → jobOf js id ≡ none
-unfolding withId
+unfolding withKey
 job-none [] id h = refl
 job-none (j ∷ js) id h = rw (ne-eqb (j .id) id (h .0)) (job-none js id (h .1))
 

@@ -20,7 +20,7 @@ use Rattle.model.proofs.PlanOrder.{jobOf as theJob}
 use Rattle.table.specs.Refusals.{Outcome, accepted, refused}
 use Rattle.table.specs.Tables.{JobTable, GoodTable}
 use Rattle.table.specs.declared.refusal.Refusal.the-variants.{Left}
-use Rattle.lookup.specs.Lookup.{jobOf, withId}
+use Rattle.lookup.specs.Lookup.{jobOf, withKey}
 use Rattle.plan.specs.declared.Step as plan
 use Rattle.plan.specs.Plans.{stepId, noStep, stepAt, readPlan, stepOf}
 use Rattle.plan.proofs.Plans.{accepted-plan, step-at}
@@ -56,7 +56,7 @@ pub record JobFor (js : List Job) (id : ℕ) : Type 0 where
   pub same-id : (getD js at noJob) .id ≡ id
 
 job-for : (js : List Job) (id : ℕ) (j : Job) → jobOf js id ≡ some j → JobFor js id
-unfolding withId
+unfolding withKey
 job-for [] id j e = clash (cc)
 job-for (x ∷ js) id j e = step (eqb (x .id) id) refl e (job-for js id j)
   where

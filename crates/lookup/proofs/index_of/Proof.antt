@@ -1,6 +1,6 @@
 -- `lookup::index_of` meets its contract. The invariant: the jobs from the i-th on are indexed (`Tail` of proofs/Lookup.antt).
 -- The measure is how many are left. Assumes nothing.
-use Prim.Native.Nat.{ℕ, suc, _-_, _≤_, _<_}
+use Prim.Native.Nat.{ℕ, _+_, _-_, _≤_, _<_}
 use native.Mathlib.Omega.{arith}
 use mathlib.Core.Path.{_≡_, ap, subst}
 use mathlib.Core.List.{List}
@@ -34,7 +34,7 @@ counted c =
 -- the job that is read from the array is the table's
 one-more :
     (t : Table) (i : ℕ) (index : List ℕ) → length (jobTable t .jobs) ≡ t .count → i < t .count → (getD (t .jobs) i noJob) .id < 256 →
-    Tail (jobTable t .jobs) (suc i) index → Tail (jobTable t .jobs) i (set index ((getD (t .jobs) i noJob) .id) i)
+    Tail (jobTable t .jobs) (i + 1) index → Tail (jobTable t .jobs) i (set index ((getD (t .jobs) i noJob) .id) i)
 one-more t i index size more byte so =
     let here : (getD (take (t .count) (t .jobs)) i noJob) .id ≡ (getD (t .jobs) i noJob) .id = ap jobId (getD-take (t .count) (t .jobs) i noJob more) in
     subst (λ (id : ℕ). Tail (jobTable t .jobs) i (set index id i)) here (tail-more _ i index (omega (arith, size)) (omega (arith, here)) so)
@@ -70,7 +70,7 @@ loop-again : tie.Need-loop-again Inv-loop μ-loop
 loop-again c =
     let start = c .before .before .before .before in
     let l = c .before .before .before .loop in
-    let next : suc (l .i - 1) ≡ l .i = omega arith in
+    let next : l .i - 1 + 1 ≡ l .i = omega arith in
     record {
       within = omega (arith, l .inv .within);
       so = one-more (start .args .t1) (l .i - 1) (l .index) (counted start) (omega (arith, l .inv .within)) (search needs) (rw next (l .inv .so));
