@@ -60,7 +60,7 @@ listed-append js (x ∷ xs) ys cs e =
     step c ds a b on = rw (← b, a, on) (before-behind c ds (listed js ys))
 
 -- a span of a job that the table has is short
-span-short : (c : Chosen) → TimesOk (c .job) → span c ≤ largestTime
+span-short : (c : Chosen) → TimesOk largestTime (c .job) → span c ≤ largestTime
 span-short c ok = step (c .away)
   where
     step : (w : Bool) → span (record { job = c .job; away = w }) ≤ largestTime
@@ -91,7 +91,7 @@ module _ (t : JobTable) (plan : List ℕ) (steps : ℕ) where
     pub walk-room : GoodTable t → laid .busy ≤ 4000000000
     walk-room good =
         let l = listed-tells (t .jobs) (take k (w .xs)) (w .cs) (w .so) in
-        let short = all-map (λ c e. span-short c (member-all TimesOk (good .times) (job-tells (t .jobs) _ _ e .0))) (w .cs) (l .named) in
+        let short = all-map (λ c e. span-short c (member-all (TimesOk largestTime) (good .times) (job-tells (t .jobs) _ _ e .0))) (w .cs) (l .named) in
         let few = accepted-plan plan (w .xs) (w .reads) .0 in
         rw (w .held) (omega (arith, spans-short largestTime (w .cs) short, steps-length (w .cs), ap length (l .steps), length-take k (w .xs)))
 
