@@ -39,7 +39,7 @@ here-small j = step (isEither j)
     step true = omega arith
     step false = omega arith
 
-base-small : (js : List Job) → All TimesOk js → base js ≤ largestTime * length js
+base-small : (js : List Job) → All (TimesOk largestTime) js → base js ≤ largestTime * length js
 base-small [] a = omega arith
 base-small (j ∷ js) a = omega (arith, here-small j, a .0 .local, base-small js (a .1))
 
@@ -66,4 +66,4 @@ module _ (p : Prepared) (r : Ready p) where
       small : All (λ (j : Job). j .local ≤ largestTime) (jobsInAwayOrder (r .js))
       small =
           all-perm (λ (j : Job). j .local ≤ largestTime) (Permᴰ·symm (perm-falling returnTime (filter isEither (r .js))))
-          (all-filter (λ (j : Job). j .local ≤ largestTime) isEither (r .js) (all-map (λ (j : Job) (t : TimesOk j). t .local) (r .js) (r .sound .times)))
+          (all-filter (λ (j : Job). j .local ≤ largestTime) isEither (r .js) (all-map (λ (j : Job) (t : TimesOk largestTime j). t .local) (r .js) (r .sound .times)))

@@ -12,7 +12,7 @@ use Rattle.model.specs.FreeOrder.{LeastDeadline}
 use Rattle.model.specs.Recurrence.{Cell, empty, cell, jobsInAwayOrder, base}
 use Rattle.model.specs.Positions.{noJob, places, digits, marked}
 use Rattle.table.specs.declared.refusal.Refusal.the-variants.{None}
-use Rattle.table.specs.Limits.{mostJobs}
+use Rattle.table.specs.Limits.{mostJobs, largestTime}
 use Rattle.table.specs.Refusals.{refusalSays}
 use Rattle.table.specs.Tables.{TimesOk}
 use Rattle.choice.specs.declared.Prepared.{Prepared}
@@ -42,7 +42,7 @@ preparedOf js =
 -- jobs that a sound table may have
 pub record SoundJobs (js : List Job) : Type 0 where
   pub few : length js ≤ mostJobs
-  pub times : All TimesOk js
+  pub times : All (TimesOk largestTime) js
 
 -- what is prepared of the jobs of some sound table
 pub record Ready (p : Prepared) : Type 0 where

@@ -7,22 +7,23 @@ use mathlib.Core.Logic.{_⊎_, inl, inr, _↔_}
 use mathlib.Core.Bool.{Bool, true, false}
 use mathlib.Core.List.{List, [], _∷_, _++_, map, flatMap, List·Memᴰ, List·Memᴰ·head, List·Memᴰ·tail, Memᴰ·map, append-nil, append-assoc}
 use mathlib.Core.Option.{Option, none, some}
-use lib.ListN.{length, getD, drop, length-append, length-drop}
-use lib.Seq.{getD-drop, drop-at}
+use lib.ListN.{length, drop, length-append}
+use lib.Seq.{append-snoc, drop-at}
 use lib.Dec.{eqb, ltb}
 use borrow.Author.Tests.{eqb-true, eqb-false, ltb-true, ltb-false, lt-leb}
-use native.Mathlib.Nat.{add-zero}
 use Rattle.model.specs.Lists.{All}
 use Rattle.model.proofs.Lists.{all-map, all-append, pairwise-append, member-all}
+use Rattle.table.specs.declared.refusal.Place.{Place}
 use Rattle.table.specs.declared.refusal.Refusal.{Refusal}
 use Rattle.table.specs.declared.refusal.Refusal.the-variants.{Range, Many}
 use Rattle.table.specs.declared.kind.Meaning.{Meaning}
 use Rattle.table.specs.Limits.{mostJobs}
-use Rattle.table.specs.Refusals.{place, refused}
+use Rattle.table.specs.Refusals.{past, refused}
 use Rattle.table.specs.Records.{formOf, judged, Entry, one, last, bad, listFrom}
 use Rattle.table.proofs.Records as records
-use Rattle.table.proofs.Listed.{used-member, flat-more, list-step, readOn, good-read}
-use Rattle.faults.specs.Faults.{Unread, no-byte, not-allowed, cut, Faulty, unread, many, range, twice, after, GoodList, ListFault, fault}
+use Rattle.table.proofs.Listed.{used-member, flat-more, list-step, over, overAll, readOn, good-read}
+use Rattle.table.proofs.ReadBack.{kind-byte, long}
+use Rattle.faults.specs.Faults.{joined, behind, Unread, no-byte, not-allowed, cut, Faulty, unread, many, range, twice, after, GoodList, ListFault, fault}
 
 -- one of a list has a number, or none has
 module _ {A : Type 0} (f : A → ℕ) (n : ℕ) where
@@ -50,19 +51,26 @@ pub record Whole (kinds : List (ℕ × ℕ)) (rest : List ℕ) : Type 0 where
   pub allowed : List·Memᴰ (kind, body) kinds
   pub there : body ≤ length more
 
-pub unread-or-whole : (kinds : List (ℕ × ℕ)) (at : ℕ) (rest : List ℕ) → ((f : Refusal) × Unread kinds at rest f) ⊎ Whole kinds rest
-unread-or-whole kinds at [] = inl (_, no-byte)
-unread-or-whole kinds at (k ∷ more) = step (one-or-none (λ (r : ℕ × ℕ). r .0) k kinds)
+pub unread-or-whole : (kinds : List (ℕ × ℕ)) (p : Place) (rest : List ℕ) → ((f : Refusal) × Unread kinds p rest f) ⊎ Whole kinds rest
+unread-or-whole kinds p [] = inl (_, no-byte)
+unread-or-whole kinds p (k ∷ more) = step (one-or-none (λ (r : ℕ × ℕ). r .0) k kinds)
   where
-    fits : (n : ℕ) → List·Memᴰ (k, n) kinds → (b : Bool) → ltb (length more) n ≡ b → ((f : Refusal) × Unread kinds at (k ∷ more) f) ⊎ Whole kinds (k ∷ more)
+    fits : (n : ℕ) → List·Memᴰ (k, n) kinds → (b : Bool) → ltb (length more) n ≡ b → ((f : Refusal) × Unread kinds p (k ∷ more) f) ⊎ Whole kinds (k ∷ more)
     fits n m true e = inl (_, cut m (ltb-true _ _ e))
     fits n m false e = inr (record { kind = k; body = n; more = more; is = refl; allowed = m; there = ltb-false _ _ e })
 
     step :
         ((r : ℕ × ℕ) × List·Memᴰ r kinds × (r .0 ≡ k)) ⊎ All (λ (r : ℕ × ℕ). ¬ (r .0 ≡ k)) kinds →
-        ((f : Refusal) × Unread kinds at (k ∷ more) f) ⊎ Whole kinds (k ∷ more)
+        ((f : Refusal) × Unread kinds p (k ∷ more) f) ⊎ Whole kinds (k ∷ more)
     step (inl h) = fits (h .0 .1) (subst (λ (r : ℕ × ℕ). List·Memᴰ r kinds) (λ i. (h .2 i, h .0 .1)) (h .1)) (ltb (length more) (h .0 .1)) refl
     step (inr h) = inl (_, not-allowed (all-map (λ r n e. n (sym e)) kinds h))
+
+-- the bytes of some records and then of a list
+pub joined-map : {A : Type 0} (bytesOf : A → List ℕ) (rs : List (List ℕ)) (xs : List A) → joined (rs ++ map bytesOf xs) ≡ joined rs ++ flatMap bytesOf xs
+unfolding flatMap
+joined-map bytesOf [] [] = refl
+joined-map bytesOf [] (x ∷ xs) = ap (λ (l : List ℕ). bytesOf x ++ l) (joined-map bytesOf [] xs)
+joined-map bytesOf (r ∷ rs) xs = ap (λ (l : List ℕ). r ++ l) (joined-map bytesOf rs xs) ∙ sym (append-assoc r (joined rs) (flatMap bytesOf xs))
 
 -- Every file is told. `Byte` is what is known of each byte; a whole record is one that is listed, or the end.
 module _
@@ -71,13 +79,13 @@ module _
     (record-is :
     (rest : List ℕ) → Whole kinds rest → All Byte rest →
     ((x : A) × (more : List ℕ) × (rest ≡ bytesOf x ++ more) × All Byte more) ⊎ ((more : List ℕ) × (rest ≡ end ∷ more)))
-    (first : List ℕ) where
+    (first : List (List ℕ)) where
   abbrev Good : List A → Type 0
   Good = GoodList idOf InRange
 
   -- the bytes of a good list and its end record, or a fault
   abbrev pub Told : List ℕ → Type 0
-  Told s = ((xs : List A) × Good xs × (s ≡ first ++ flatMap bytesOf xs ++ (end ∷ []))) ⊎ ((f : Refusal) × ListFault idOf bytesOf InRange kinds end first s f)
+  Told s = ((xs : List A) × Good xs × (s ≡ joined first ++ flatMap bytesOf xs ++ (end ∷ []))) ⊎ ((f : Refusal) × ListFault idOf bytesOf InRange kinds end first s f)
 
   good-more : (xs : List A) (x : A) → Good xs → length xs < mostJobs → InRange x → All (λ (y : A). ¬ (idOf y ≡ idOf x)) xs → Good (xs ++ (x ∷ []))
   good-more xs x good room ok new =
@@ -91,111 +99,136 @@ module _
   module _
       (xs : List A) (good : Good xs)
       (on :
-      (x : A) (more : List ℕ) → length xs < mostJobs → Good (xs ++ (x ∷ [])) → All Byte more → Told (first ++ flatMap bytesOf (xs ++ (x ∷ [])) ++ more)) where
-    abbrev at : ℕ
-    at = length (first ++ flatMap bytesOf xs)
+      (x : A) (more : List ℕ) → length xs < mostJobs → Good (xs ++ (x ∷ [])) → All Byte more → Told (joined first ++ flatMap bytesOf (xs ++ (x ∷ [])) ++ more)) where
+    abbrev rs : List (List ℕ)
+    rs = first ++ map bytesOf xs
 
-    faulty : {rest : List ℕ} {f : Refusal} → Faulty idOf bytesOf InRange kinds end xs at rest f → Told (first ++ flatMap bytesOf xs ++ rest)
-    faulty {rest} {f} y = inr (f, fault xs rest good y)
+    faulty : {rest : List ℕ} {f : Refusal} → Faulty idOf bytesOf InRange kinds end xs rs rest f → Told (joined first ++ flatMap bytesOf xs ++ rest)
+    faulty {rest} {f} y =
+        inr (f, subst (λ (l : List ℕ). ListFault idOf bytesOf InRange kinds end first (l ++ rest) f) (joined-map bytesOf first xs) (fault xs rest good y))
 
-    told-listed : (x : A) (more : List ℕ) → All Byte more → Told (first ++ flatMap bytesOf xs ++ (bytesOf x ++ more))
+    told-listed : (x : A) (more : List ℕ) → All Byte more → Told (joined first ++ flatMap bytesOf xs ++ (bytesOf x ++ more))
     told-listed x more bytes = room (ltb (length xs) mostJobs) refl
       where
         new :
             length xs < mostJobs → InRange x → One idOf (idOf x) xs ⊎ None idOf (idOf x) xs →
-            Told (first ++ flatMap bytesOf xs ++ (bytesOf x ++ more))
+            Told (joined first ++ flatMap bytesOf xs ++ (bytesOf x ++ more))
         new h ok (inl m) = faulty (twice x more h ok (subst (λ (i : ℕ). List·Memᴰ i (map idOf xs)) (m .2) (Memᴰ·map idOf (m .1))))
         new h ok (inr d) =
-            subst Told (append-assoc first (flatMap bytesOf (xs ++ (x ∷ []))) more ∙
-            (ap (λ (l : List ℕ). first ++ l) (flat-more bytesOf xs x more) ∙ sym (append-assoc first (flatMap bytesOf xs) (bytesOf x ++ more))))
+            subst Told (append-assoc (joined first) (flatMap bytesOf (xs ++ (x ∷ []))) more ∙
+            (ap (λ (l : List ℕ). joined first ++ l) (flat-more bytesOf xs x more) ∙ sym (append-assoc (joined first) (flatMap bytesOf xs) (bytesOf x ++ more))))
             (on x more h (good-more xs x good h ok d) bytes)
 
-        ranged : length xs < mostJobs → InRange x ⊎ ¬ InRange x → Told (first ++ flatMap bytesOf xs ++ (bytesOf x ++ more))
+        ranged : length xs < mostJobs → InRange x ⊎ ¬ InRange x → Told (joined first ++ flatMap bytesOf xs ++ (bytesOf x ++ more))
         ranged h (inl ok) = new h ok (one-or-none idOf (idOf x) xs)
         ranged h (inr out) = faulty (range x more h out)
 
-        room : (b : Bool) → ltb (length xs) mostJobs ≡ b → Told (first ++ flatMap bytesOf xs ++ (bytesOf x ++ more))
+        room : (b : Bool) → ltb (length xs) mostJobs ≡ b → Told (joined first ++ flatMap bytesOf xs ++ (bytesOf x ++ more))
         room true e = ranged (ltb-true _ _ e) (in-range x)
         room false e = faulty (many x more (omega (arith, ltb-false (length xs) mostJobs e, good .few)))
 
-    told-end : (more : List ℕ) → Told (first ++ flatMap bytesOf xs ++ (end ∷ more))
+    told-end : (more : List ℕ) → Told (joined first ++ flatMap bytesOf xs ++ (end ∷ more))
     told-end [] = inl (xs, good, refl)
     told-end (b ∷ more) = faulty after
 
-    told-one : (rest : List ℕ) → All Byte rest → Told (first ++ flatMap bytesOf xs ++ rest)
-    told-one rest bytes = step (unread-or-whole kinds at rest)
+    told-one : (rest : List ℕ) → All Byte rest → Told (joined first ++ flatMap bytesOf xs ++ rest)
+    told-one rest bytes = step (unread-or-whole kinds (behind rs) rest)
       where
         whole :
             ((x : A) × (more : List ℕ) × (rest ≡ bytesOf x ++ more) × All Byte more) ⊎ ((more : List ℕ) × (rest ≡ end ∷ more)) →
-            Told (first ++ flatMap bytesOf xs ++ rest)
+            Told (joined first ++ flatMap bytesOf xs ++ rest)
         whole (inl w) = rw (w .2) (told-listed (w .0) (w .1) (w .3))
         whole (inr w) = rw (w .1) (told-end (w .0))
 
-        step : ((f : Refusal) × Unread kinds at rest f) ⊎ Whole kinds rest → Told (first ++ flatMap bytesOf xs ++ rest)
+        step : ((f : Refusal) × Unread kinds (behind rs) rest f) ⊎ Whole kinds rest → Told (joined first ++ flatMap bytesOf xs ++ rest)
         step (inl u) = faulty (unread (u .1))
         step (inr w) = whole (record-is rest w bytes)
 
-  told-from : (left : ℕ) (xs : List A) (rest : List ℕ) → left + length xs ≡ mostJobs → Good xs → All Byte rest → Told (first ++ flatMap bytesOf xs ++ rest)
+  told-from : (left : ℕ) (xs : List A) (rest : List ℕ) → left + length xs ≡ mostJobs → Good xs → All Byte rest → Told (joined first ++ flatMap bytesOf xs ++ rest)
   told-from zero xs rest count good bytes = told-one xs good (λ x more room g b. absurd (omega arith)) rest bytes
   told-from (suc left) xs rest count good bytes =
       told-one xs good (λ x more room g b. told-from left (xs ++ (x ∷ [])) more (omega (arith, length-append xs (x ∷ []))) g b) rest bytes
 
-  pub listed-or-fault : (rest : List ℕ) → All Byte rest → Told (first ++ rest)
+  pub listed-or-fault : (rest : List ℕ) → All Byte rest → Told (joined first ++ rest)
   unfolding flatMap
   listed-or-fault rest bytes = rw append-nil at (told-from mostJobs [] rest (omega arith) (record { few = omega arith; distinct = tt; each = tt }) bytes)
 
 -- A record that is not read is refused by what is judged of every record, where the kinds that may stand there are these.
 module _
-    {K R : Type 0} (refuse : Refusal → R) (read : K → R) (may : Meaning → Option K) (kinds : List (ℕ × ℕ))
+    {K R : Type 0} (refuse : Refusal → R) (read : Place → K → R) (may : Meaning → Option K) (kinds : List (ℕ × ℕ))
     (others : (k : ℕ) → All (λ (r : ℕ × ℕ). ¬ (k ≡ r .0)) kinds → may (formOf k .meaning) ≡ none)
     (these : All (λ (r : ℕ × ℕ). (j : K) × (may (formOf (r .0) .meaning) ≡ some j) × (formOf (r .0) .body ≡ r .1)) kinds)
-    (s : List ℕ) (at : ℕ) where
-  -- the byte at the place, and how many follow
-  first-byte : {k : ℕ} {more : List ℕ} → drop at s ≡ k ∷ more → (getD s at 0 ≡ k) × (length s - at ≡ suc (length more))
-  first-byte {k} {more} e = (rw add-zero at (sym (getD-drop at s 0 0) ∙ ap (λ (l : List ℕ). getD l 0 0) e), sym (length-drop at s) ∙ ap length e)
-
-  pub unread-refused : {rest : List ℕ} {f : Refusal} → Unread kinds at rest f → drop at s ≡ rest → judged refuse read may s at ≡ refuse f
+    (s : List ℕ) (p : Place) where
+  pub unread-refused : {rest : List ℕ} {f : Refusal} → Unread kinds p rest f → drop (p .at) s ≡ rest → judged refuse read may s p ≡ refuse f
   unread-refused no-byte e =
-      let none-left : length s - at ≡ 0 = sym (length-drop at s) ∙ ap length e in
-      records.no-byte refuse read may s at (omega arith)
+      let size = long s p _ e in
+      records.no-byte refuse read may s p (omega arith)
   unread-refused (not-allowed {k} h) e =
-      let b = first-byte e in
-      records.not-allowed refuse read may s at refl (omega (arith, b .1)) (rw (b .0) (others k h))
+      let size = long s p _ e in
+      records.not-allowed refuse read may s p refl (omega arith) (rw (kind-byte s p _ e) (others k h))
   unread-refused (cut {k} {n} {more} m h) e =
-      let b = first-byte e in
+      let size = long s p _ e in
       let known = member-all _ these m in
-      records.cut refuse read may s at {f = formOf k} (ap formOf (sym (b .0))) (omega (arith, b .1)) (known .0) (known .1) (omega (arith, b .1, known .2))
+      records.cut refuse read may s p {f = formOf k} (ap formOf (sym (kind-byte s p _ e))) (omega arith) (known .0) (known .1) (omega (arith, known .2))
+
+-- The place behind records by their bytes is where going from record to record leads.
+pub behind-more : (rs : List (List ℕ)) (r : List ℕ) → 1 ≤ length r → behind (rs ++ (r ∷ [])) ≡ over (behind rs) r
+behind-more rs r any =
+    let size = ap length (flat-more (λ (l : List ℕ). l) rs r []) in
+    let far : length (joined (rs ++ (r ∷ []))) ≡ length (joined rs) + 1 + (length r - 1) =
+    omega (arith, length-append (joined (rs ++ (r ∷ []))) [], length-append (joined rs) (r ++ []), length-append r []) in
+    λ i. record { at = far i }
+
+behind-all :
+    {A : Type 0} (bytesOf : A → List ℕ) → ((x : A) → 1 ≤ length (bytesOf x)) →
+    (rs : List (List ℕ)) (xs : List A) → overAll (behind rs) (map bytesOf xs) ≡ behind (rs ++ map bytesOf xs)
+unfolding overAll
+behind-all bytesOf any rs [] = rw append-nil
+behind-all bytesOf any rs (x ∷ xs) =
+    ap (λ (p : Place). overAll p (map bytesOf xs)) (sym (behind-more rs (bytesOf x) (any x))) ∙
+    (behind-all bytesOf any (rs ++ (bytesOf x ∷ [])) xs ∙ ap behind (append-snoc rs (bytesOf x) (map bytesOf xs)))
 
 -- A list with a fault is refused for it, where the reader of one record refuses for what is wrong with the record, and reads what is not.
 module _
-    {A : Type 0} (idOf : A → ℕ) (bytesOf : A → List ℕ) (InRange : A → Type 0) (kinds : List (ℕ × ℕ)) (end : ℕ) (s : List ℕ) (entryAt : ℕ → ℕ → Entry A)
-    (is-unread : (at n : ℕ) (rest : List ℕ) (f : Refusal) → Unread kinds at rest f → drop at s ≡ rest → entryAt at n ≡ bad f)
-    (is-many : (at n : ℕ) (x : A) (more : List ℕ) → drop at s ≡ bytesOf x ++ more → mostJobs ≤ n → entryAt at n ≡ bad (Many (place at)))
-    (is-range : (at n : ℕ) (x : A) (more : List ℕ) → drop at s ≡ bytesOf x ++ more → n < mostJobs → ¬ InRange x → entryAt at n ≡ bad (Range (place at)))
-    (is-one : (at n : ℕ) (x : A) (more : List ℕ) → drop at s ≡ bytesOf x ++ more → n < mostJobs → InRange x → entryAt at n ≡ one x (at + length (bytesOf x)))
-    (is-end : (at n : ℕ) (more : List ℕ) → drop at s ≡ end ∷ more → entryAt at n ≡ last (at + 1)) where
+    {A : Type 0} (idOf : A → ℕ) (bytesOf : A → List ℕ) (InRange : A → Type 0) (kinds : List (ℕ × ℕ)) (end : ℕ) (s : List ℕ)
+    (entryAt : Place → ℕ → Entry A) (any : (x : A) → 1 ≤ length (bytesOf x))
+    (is-unread : (p : Place) (n : ℕ) (rest : List ℕ) (f : Refusal) → Unread kinds p rest f → drop (p .at) s ≡ rest → entryAt p n ≡ bad f)
+    (is-many : (p : Place) (n : ℕ) (x : A) (more : List ℕ) → drop (p .at) s ≡ bytesOf x ++ more → mostJobs ≤ n → entryAt p n ≡ bad (Many p))
+    (is-range :
+    (p : Place) (n : ℕ) (x : A) (more : List ℕ) → drop (p .at) s ≡ bytesOf x ++ more → n < mostJobs → ¬ InRange x → entryAt p n ≡ bad (Range p))
+    (is-one :
+    (p : Place) (n : ℕ) (x : A) (more : List ℕ) → drop (p .at) s ≡ bytesOf x ++ more → n < mostJobs → InRange x → entryAt p n ≡ one x (over p (bytesOf x)))
+    (is-end : (p : Place) (n : ℕ) (more : List ℕ) → drop (p .at) s ≡ end ∷ more → entryAt p n ≡ last (past p 0)) where
   faulty-refused :
-      (xs : List A) (at : ℕ) {rest : List ℕ} {f : Refusal} → length xs ≤ mostJobs → Faulty idOf bytesOf InRange kinds end xs at rest f → drop at s ≡ rest →
-      readOn idOf s entryAt bytesOf xs at ≡ refused f
-  faulty-refused xs at {rest} {f} few (unread u) e = list-step idOf entryAt (length s) xs at few ∙ rw (is-unread at (length xs) rest f u e)
-  faulty-refused xs at few (many x more h) e = list-step idOf entryAt (length s) xs at few ∙ rw (is-many at (length xs) x more e (omega arith))
-  faulty-refused xs at few (range x more h out) e = list-step idOf entryAt (length s) xs at few ∙ rw (is-range at (length xs) x more e h out)
-  faulty-refused xs at few (twice x more h ok m) e =
-      list-step idOf entryAt (length s) xs at few ∙ rw (is-one at (length xs) x more e h ok, used-member (map idOf xs) (idOf x) m)
-  faulty-refused xs at few (after {b} {more}) e =
-      let long : length s - at ≡ suc (suc (length more)) = sym (length-drop at s) ∙ ap length e in
-      list-step idOf entryAt (length s) xs at few ∙ rw (is-end at (length xs) (b ∷ more) e, lt-leb (length s) (at + 1) (omega arith))
+      (xs : List A) (rs : List (List ℕ)) {rest : List ℕ} {f : Refusal} → length xs ≤ mostJobs → Faulty idOf bytesOf InRange kinds end xs rs rest f →
+      drop (behind rs .at) s ≡ rest → readOn idOf s entryAt bytesOf xs (behind rs) ≡ refused f
+  faulty-refused xs rs {rest} {f} few (unread u) e =
+      list-step idOf entryAt (length s) xs (behind rs) few ∙ rw (is-unread (behind rs) (length xs) rest f u e)
+  faulty-refused xs rs few (many x more h) e =
+      list-step idOf entryAt (length s) xs (behind rs) few ∙ rw (is-many (behind rs) (length xs) x more e (omega arith))
+  faulty-refused xs rs few (range x more h out) e =
+      list-step idOf entryAt (length s) xs (behind rs) few ∙ rw (is-range (behind rs) (length xs) x more e h out)
+  faulty-refused xs rs few (twice x more h ok m) e =
+      list-step idOf entryAt (length s) xs (behind rs) few ∙
+      rw (is-one (behind rs) (length xs) x more e h ok, used-member (map idOf xs) (idOf x) m)
+  faulty-refused xs rs few (after {b} {more}) e =
+      let p = behind rs in
+      let size = long s p _ e in
+      list-step idOf entryAt (length s) xs p few ∙
+      rw (is-end p (length xs) (b ∷ more) e, lt-leb (length s) (past p 0 .at) (omega arith), behind-more rs (end ∷ []) (omega arith))
 
   pub fault-refused :
-      {first u : List ℕ} {f : Refusal} → ListFault idOf bytesOf InRange kinds end first u f → u ≡ s →
-      listFrom idOf entryAt (length s) (suc mostJobs) [] (length first) ≡ refused f
+      {first : List (List ℕ)} {u : List ℕ} {f : Refusal} → ListFault idOf bytesOf InRange kinds end first u f → u ≡ s →
+      listFrom idOf entryAt (length s) (suc mostJobs) [] (behind first) ≡ refused f
   fault-refused {first} (fault xs rest good y) e =
-      let begun : drop (length first) s ≡ flatMap bytesOf xs ++ rest =
-      ap (drop (length first)) (sym e ∙ append-assoc first (flatMap bytesOf xs) rest) ∙ drop-at first (flatMap bytesOf xs ++ rest) (length first) refl in
-      let there : drop (length (first ++ flatMap bytesOf xs)) s ≡ rest =
-      ap (drop (length (first ++ flatMap bytesOf xs))) (sym e) ∙ drop-at (first ++ flatMap bytesOf xs) rest _ refl in
-      good-read idOf s entryAt bytesOf InRange is-one xs [] (length first) rest (omega (arith, good .few)) (good .distinct) (good .each) begun ∙
-      rw (← length-append) (faulty-refused xs (length (first ++ flatMap bytesOf xs)) (good .few) y there)
+      let rs = first ++ map bytesOf xs in
+      let parts : s ≡ joined first ++ (flatMap bytesOf xs ++ rest) =
+      sym e ∙ rw (joined-map bytesOf first xs) (append-assoc (joined first) (flatMap bytesOf xs) rest) in
+      let begun : drop (behind first .at) s ≡ flatMap bytesOf xs ++ rest =
+      ap (drop (length (joined first))) parts ∙ drop-at (joined first) (flatMap bytesOf xs ++ rest) _ refl in
+      let there : drop (behind rs .at) s ≡ rest = ap (drop (length (joined rs))) (sym e) ∙ drop-at (joined rs) rest _ refl in
+      good-read idOf s entryAt bytesOf InRange any is-one xs [] (behind first) rest (omega (arith, good .few)) (good .distinct) (good .each) begun ∙
+      rw (behind-all bytesOf any first xs) (faulty-refused xs rs (good .few) y there)
 
 -- What is so of some answer, and of no other than r, is so of r alone; so it is so of exactly one.
 module _ {T : Type 0} (Is : T → Type 0) (r : T) (there : (o : T) × Is o) (only : (o : T) → Is o → r ≡ o) where

@@ -3,44 +3,52 @@
 use Prim.Native.Nat.{ℕ, _+_, _*_, _≤_}
 use native.Mathlib.Omega.{arith}
 use mathlib.Core.Path.{_≡_, refl, ap, _∙_}
-use mathlib.Core.List.{List, [], _∷_, _++_, flatMap}
+use mathlib.Core.List.{List, [], _∷_, _++_, map, flatMap}
 use lib.ListN.{length, length-append}
 use Rattle.model.specs.declared.Sending.{Sending}
 use Rattle.model.specs.declared.Sending.the-variants.{HereOnly, Either}
 use Rattle.model.specs.declared.Job.{Job}
+use Rattle.table.specs.declared.refusal.Place.{Place}
 use Rattle.table.specs.declared.refusal.Refusal.{Refusal}
 use Rattle.table.specs.Refusals.{refusalSays, accepted}
 use Rattle.table.specs.Limits.{longestTable}
 use Rattle.table.specs.Tables.{JobTable, sendingBytes, jobBytes}
 use Rattle.plan.specs.declared.Step.{Step}
-use Rattle.faults.specs.Faults.{Unread, no-byte, not-allowed, cut, Faulty, unread, many, range, twice, after, ListFault, fault, TableFault, in-frame}
+use Rattle.faults.specs.Faults.{joined, behind, Unread, no-byte, not-allowed, cut, Faulty, unread, many, range, twice, after, ListFault, fault, TableFault, in-frame}
 use Rattle.faults.specs.Faults.{deadline, in-row, frameBytes, PlanFault, TableIs, FaultAt}
+use Rattle.faults.proofs.Files.{joined-map, behind-more}
 use Rattle.faults.proofs.Tables.{table-flat}
 use Rattle.faults.specs.Checks.{stranger, kept, Misfit, at-step, left, late}
 
-unread-placed : {kinds : List (ℕ × ℕ)} {at : ℕ} {rest : List ℕ} {f : Refusal} → Unread kinds at rest f → (most : ℕ) → at ≤ most → FaultAt most (refusalSays f)
-unread-placed {at = at} no-byte most h = record { number = 1; place = at; says = refl; low = omega arith; high = omega arith; within = h }
-unread-placed {at = at} (not-allowed k) most h = record { number = 2; place = at; says = refl; low = omega arith; high = omega arith; within = h }
-unread-placed {at = at} (cut m k) most h = record { number = 1; place = at; says = refl; low = omega arith; high = omega arith; within = h }
+unread-placed :
+    {kinds : List (ℕ × ℕ)} {p : Place} {rest : List ℕ} {f : Refusal} → Unread kinds p rest f → (most : ℕ) → p .at ≤ most → FaultAt most (refusalSays f)
+unread-placed {p = p} no-byte most h = record { number = 1; place = p .at; says = refl; low = omega arith; high = omega arith; within = h }
+unread-placed {p = p} (not-allowed k) most h = record { number = 2; place = p .at; says = refl; low = omega arith; high = omega arith; within = h }
+unread-placed {p = p} (cut m k) most h = record { number = 1; place = p .at; says = refl; low = omega arith; high = omega arith; within = h }
 
 module _ {A : Type 0} {idOf : A → ℕ} {bytesOf : A → List ℕ} {InRange : A → Type 0} {kinds : List (ℕ × ℕ)} {end : ℕ} where
   -- a record that begins by `most`, and where it has bytes one before
   faulty-placed :
-      {xs : List A} {at : ℕ} {rest : List ℕ} {f : Refusal} → Faulty idOf bytesOf InRange kinds end xs at rest f →
-      (most : ℕ) → at ≤ most → (1 ≤ length rest → at + 1 ≤ most) → FaultAt most (refusalSays f)
+      {xs : List A} {rs : List (List ℕ)} {rest : List ℕ} {f : Refusal} → Faulty idOf bytesOf InRange kinds end xs rs rest f →
+      (most : ℕ) → behind rs .at ≤ most → (1 ≤ length rest → behind rs .at + 1 ≤ most) → FaultAt most (refusalSays f)
   faulty-placed (unread u) most h k = unread-placed u most h
-  faulty-placed {at = at} (many x more n) most h k = record { number = 4; place = at; says = refl; low = omega arith; high = omega arith; within = h }
-  faulty-placed {at = at} (range x more n o) most h k = record { number = 3; place = at; says = refl; low = omega arith; high = omega arith; within = h }
-  faulty-placed {at = at} (twice x more n o m) most h k = record { number = 5; place = at; says = refl; low = omega arith; high = omega arith; within = h }
-  faulty-placed {at = at} after most h k =
-      record { number = 6; place = at + 1; says = refl; low = omega arith; high = omega arith; within = k (omega arith) }
+  faulty-placed {rs = rs} (many x more n) most h k =
+      record { number = 4; place = behind rs .at; says = refl; low = omega arith; high = omega arith; within = h }
+  faulty-placed {rs = rs} (range x more n o) most h k =
+      record { number = 3; place = behind rs .at; says = refl; low = omega arith; high = omega arith; within = h }
+  faulty-placed {rs = rs} (twice x more n o m) most h k =
+      record { number = 5; place = behind rs .at; says = refl; low = omega arith; high = omega arith; within = h }
+  faulty-placed {rs = rs} after most h k =
+      let far : behind (rs ++ ((end ∷ []) ∷ [])) .at ≡ behind rs .at + 1 + 0 = ap (λ (p : Place). p .at) (behind-more rs (end ∷ []) (omega arith)) in
+      record { number = 6; place = _; says = refl; low = omega arith; high = omega arith; within = omega (arith, k (omega arith)) }
 
-  list-placed : {first s : List ℕ} {f : Refusal} → ListFault idOf bytesOf InRange kinds end first s f → FaultAt (length s) (refusalSays f)
+  list-placed : {first : List (List ℕ)} {s : List ℕ} {f : Refusal} → ListFault idOf bytesOf InRange kinds end first s f → FaultAt (length s) (refusalSays f)
   list-placed {first} (fault xs rest good y) =
-      let size = length-append (first ++ flatMap bytesOf xs) rest in
+      let size = length-append (joined (first ++ map bytesOf xs)) rest in
       faulty-placed y _ (omega arith) (λ k. omega arith)
 
 pub table-placed : {s : List ℕ} {f : Refusal} → TableFault s f → FaultAt (length s) (refusalSays f)
+unfolding flatMap
 table-placed (in-frame u) = unread-placed u _ (omega arith)
 table-placed (deadline D more out) = record { number = 3; place = 0; says = refl; low = omega arith; high = omega arith; within = omega arith }
 table-placed (in-row D ok y) = list-placed y
@@ -60,10 +68,11 @@ jobs-length (j ∷ js) =
     omega (arith, length-append (jobBytes j) (flatMap jobBytes js), sending-length (j .id) (j .local) (j .sending), jobs-length js)
 
 pub table-near : {s : List ℕ} {f : Refusal} → TableFault s f → FaultAt longestTable (refusalSays f)
+unfolding flatMap
 table-near (in-frame u) = unread-placed u longestTable (omega arith)
 table-near (deadline D more out) = record { number = 3; place = 0; says = refl; low = omega arith; high = omega arith; within = omega arith }
 table-near (in-row D ok (fault js rest good y)) =
-    let size = length-append (frameBytes D) (flatMap jobBytes js) in
+    let size = ap length (joined-map jobBytes (frameBytes D ∷ []) js) in
     let few = good .few in
     faulty-placed y longestTable (omega (arith, jobs-length js)) (λ k. omega (arith, jobs-length js))
 

@@ -10,13 +10,14 @@ use lib.ListN.{length, drop}
 use borrow.Author.Tests.{le-ltb}
 use Rattle.model.specs.Lists.{All}
 use Rattle.model.proofs.Lists.{all-all, member-all}
+use Rattle.table.specs.declared.refusal.Place.{Place}
 use Rattle.table.specs.declared.refusal.Refusal.{Refusal}
 use Rattle.table.specs.declared.refusal.Refusal.the-variants.{Many}
 use Rattle.table.specs.declared.kind.StepKind.{StepKind}
 use Rattle.table.specs.declared.kind.StepKind.the-variants.{HereStep, AwayStep, EndStep}
 use Rattle.table.specs.declared.kind.Form.{Form}
 use Rattle.table.specs.Limits.{mostJobs}
-use Rattle.table.specs.Refusals.{place, Outcome, accepted, refused}
+use Rattle.table.specs.Refusals.{Outcome, accepted, refused}
 use Rattle.table.specs.Records.{formOf, stepOnly, bad}
 use Rattle.table.proofs.Records.{stepByte, form-all}
 use Rattle.plan.specs.declared.Step.{Step}
@@ -60,20 +61,21 @@ these : All (λ (r : ℕ × ℕ). (j : StepKind) × (stepOnly (formOf (r .0) .me
 unfolding formOf
 these = ((HereStep, refl, refl), ((AwayStep, refl, refl), ((EndStep, refl, refl), tt)))
 
-module _ (s : List ℕ) (at n : ℕ) where
-  is-unread : (rest : List ℕ) (f : Refusal) → Unread stepKinds at rest f → drop at s ≡ rest → planEntry s at n ≡ bad f
+module _ (s : List ℕ) (p : Place) (n : ℕ) where
+  is-unread : (rest : List ℕ) (f : Refusal) → Unread stepKinds p rest f → drop (p .at) s ≡ rest → planEntry s p n ≡ bad f
   unfolding recordAt
-  is-unread rest f u e = ap stepEntry (unread-refused RecordRefused (stepBody s at n) stepOnly stepKinds others these s at u e)
+  is-unread rest f u e = ap stepEntry (unread-refused RecordRefused (stepBody s p n) stepOnly stepKinds others these s p u e)
 
-  is-many : (x : Step) (more : List ℕ) → drop at s ≡ stepBytes x ++ more → mostJobs ≤ n → planEntry s at n ≡ bad (Many (place at))
+  is-many : (x : Step) (more : List ℕ) → drop (p .at) s ≡ stepBytes x ++ more → mostJobs ≤ n → planEntry s p n ≡ bad (Many p)
   is-many x more e h = go (x .away) e
     where
-      go : (away : Bool) → drop at s ≡ cond away 0x21 0x20 ∷ x .id ∷ more → planEntry s at n ≡ bad (Many (place at))
-      go true b = ap stepEntry (opens s at n AwayStep (x .id ∷ more) b (omega arith)) ∙ simp (le-ltb n mostJobs h)
-      go false b = ap stepEntry (opens s at n HereStep (x .id ∷ more) b (omega arith)) ∙ simp (le-ltb n mostJobs h)
+      go : (away : Bool) → drop (p .at) s ≡ cond away 0x21 0x20 ∷ x .id ∷ more → planEntry s p n ≡ bad (Many p)
+      go true b = ap stepEntry (opens s p n AwayStep (x .id ∷ more) b (omega arith)) ∙ simp (le-ltb n mostJobs h)
+      go false b = ap stepEntry (opens s p n HereStep (x .id ∷ more) b (omega arith)) ∙ simp (le-ltb n mostJobs h)
 
 -- every byte string is a plan's or has a fault
 pub plan-or-fault : (s : List ℕ) → (o : Outcome (List Step)) × PlanIs s o
+unfolding flatMap
 plan-or-fault s = step (listed-or-fault stepId stepBytes NoTimes stepKinds 0x2F Any (λ x. inl tt) record-is [] s (all-all (λ b. tt) s))
   where
     step :
@@ -83,11 +85,11 @@ plan-or-fault s = step (listed-or-fault stepId stepBytes NoTimes stepKinds 0x2F 
 
 -- and is read so
 pub plan-read : (s : List ℕ) (o : Outcome (List Step)) → PlanIs s o → readPlan s ≡ o
-unfolding readPlan
+unfolding readPlan flatMap
 plan-read s (accepted xs) p = rw (p .1) (plan-back xs (p .0 .few) (p .0 .distinct))
 plan-read s (refused f) y =
-    fault-refused stepId stepBytes NoTimes stepKinds 0x2F s (planEntry s)
-    (is-unread s) (is-many s) (λ at n x more e h out. absurd (out tt)) (λ at n x more e h ok. step-back s at n x more e h) (end-back s) y refl
+    fault-refused stepId stepBytes NoTimes stepKinds 0x2F s (planEntry s) (λ x. omega arith)
+    (is-unread s) (is-many s) (λ p n x more e h out. absurd (out tt)) (λ p n x more e h ok. step-back s p n x more e h) (end-back s) y refl
 
 pub plan-is : (s : List ℕ) (o : Outcome (List Step)) → (readPlan s ≡ o) ↔ PlanIs s o
 plan-is s = exactly (PlanIs s) (readPlan s) (plan-or-fault s) (plan-read s)

@@ -4,7 +4,7 @@ use native.Mathlib.Omega.{arith}
 use mathlib.Core.Path.{_≡_, refl, sym, ap, subst, _∙_}
 use mathlib.Core.Logic.{_⊎_, inl, inr, _↔_}
 use mathlib.Core.Bool.{Bool, true, false, cond, _&&_}
-use mathlib.Core.List.{List, [], _∷_, _++_, flatMap, append-assoc}
+use mathlib.Core.List.{List, [], _∷_, _++_, map, flatMap}
 use mathlib.Core.Option.{none, some}
 use lib.ListN.{length, drop}
 use lib.Dec.{ltb}
@@ -14,23 +14,24 @@ use Rattle.model.specs.declared.Sending.the-variants.{HereOnly, Either}
 use Rattle.model.specs.declared.Job.{Job}
 use Rattle.model.specs.Lists.{All}
 use Rattle.model.proofs.Lists.{clash, member-all}
+use Rattle.table.specs.declared.refusal.Place.{Place}
 use Rattle.table.specs.declared.refusal.Refusal.{Refusal}
 use Rattle.table.specs.declared.refusal.Refusal.the-variants.{Range, Many}
 use Rattle.table.specs.declared.kind.RowKind.{RowKind}
 use Rattle.table.specs.declared.kind.RowKind.the-variants.{HereRow, EitherRow, EndRow}
 use Rattle.table.specs.declared.kind.Form.{Form}
-use Rattle.table.specs.declared.FrameRead.the-variants.{Deadline, FrameRefused}
+use Rattle.table.specs.declared.FrameRead.the-variants.{FrameIs, FrameRefused}
 use Rattle.table.specs.declared.JobRead.the-variants.{JobRefused}
 use Rattle.table.specs.Limits.{mostJobs, largestTime}
-use Rattle.table.specs.Refusals.{place, Outcome, accepted, refused}
+use Rattle.table.specs.Refusals.{start, past, Outcome, accepted, refused}
 use Rattle.table.specs.Records.{formOf, frameOnly, rowOnly, bad}
 use Rattle.table.specs.Tables.{JobTable, TimesOk, timeOk, deadlineAt, frameAt, rowBody, jobAt, jobEntry, jobId, jobsRead, afterFrame, withDeadline, readTable}
 use Rattle.table.specs.Tables.{wordBytes, sendingBytes, jobBytes, tableBytes}
 use Rattle.table.proofs.Records.{rowByte, form-all, frame-form, opened}
 use Rattle.table.proofs.Tables.{both, rowEntry}
 use Rattle.table.proofs.Written.{word-parts, jobs-flat}
-use Rattle.table.proofs.ReadBack.{word, row-open, job-back, end-back, word-whole, bytes-read}
-use Rattle.faults.specs.Faults.{Byte, frameKinds, rowKinds, Unread, ListFault, fault, GoodList, DeadlineOk, frameBytes, TableFault, in-frame, deadline}
+use Rattle.table.proofs.ReadBack.{word, row-open, job-any, job-back, end-back, word-whole, bytes-read}
+use Rattle.faults.specs.Faults.{Byte, joined, behind, frameKinds, rowKinds, Unread, ListFault, fault, GoodList, DeadlineOk, frameBytes, TableFault, in-frame, deadline}
 use Rattle.faults.specs.Faults.{in-row, TableIs}
 use Rattle.faults.proofs.Files.{Whole, unread-or-whole, listed-or-fault, unread-refused, fault-refused, exactly, exactly-one}
 
@@ -117,7 +118,7 @@ abbrev fine : ℕ → Sending → Bool
 fine C HereOnly = timeOk C
 fine C (Either S I) = timeOk C && (timeOk S && timeOk I)
 
-fine-iff : (id C : ℕ) (d : Sending) → (fine C d ≡ true) ↔ TimesOk (record { id = id; local = C; sending = d })
+fine-iff : (id C : ℕ) (d : Sending) → (fine C d ≡ true) ↔ TimesOk largestTime (record { id = id; local = C; sending = d })
 fine-iff id C HereOnly = ((λ e. record { local = leb-true C largestTime e; setup = omega arith; back = omega arith }), (λ t. le-leb C largestTime (t .local)))
 fine-iff id C (Either S I) = (
   (λ e.
@@ -142,31 +143,42 @@ fails : {P : Type 0} (b : Bool) → (b ≡ true) ↔ P → ¬ P → b ≡ false
 fails true h out = absurd (out (h .0 refl))
 fails false h out = refl
 
-module _ (s : List ℕ) (at n : ℕ) where
-  is-unread : (rest : List ℕ) (f : Refusal) → Unread rowKinds at rest f → drop at s ≡ rest → rowEntry s at n ≡ bad f
+module _ (s : List ℕ) (p : Place) (n : ℕ) where
+  is-unread : (rest : List ℕ) (f : Refusal) → Unread rowKinds p rest f → drop (p .at) s ≡ rest → rowEntry s p n ≡ bad f
   unfolding jobAt
-  is-unread rest f u e = ap jobEntry (unread-refused JobRefused (rowBody s at n) rowOnly rowKinds row-others row-these s at u e)
+  is-unread rest f u e = ap jobEntry (unread-refused JobRefused (rowBody s p n) rowOnly rowKinds row-others row-these s p u e)
 
-  is-many : (id C : ℕ) (d : Sending) (more : List ℕ) → drop at s ≡ sendingBytes id C d ++ more → mostJobs ≤ n → rowEntry s at n ≡ bad (Many (place at))
-  is-many id C HereOnly more e h = row-open s at _ e n HereRow refl (omega arith) ∙ simp (le-ltb n mostJobs h)
-  is-many id C (Either S I) more e h = row-open s at _ e n EitherRow refl (omega arith) ∙ simp (le-ltb n mostJobs h)
+  is-many : (id C : ℕ) (d : Sending) (more : List ℕ) → drop (p .at) s ≡ sendingBytes id C d ++ more → mostJobs ≤ n → rowEntry s p n ≡ bad (Many p)
+  is-many id C HereOnly more e h = row-open s p _ e n HereRow refl (omega arith) ∙ simp (le-ltb n mostJobs h)
+  is-many id C (Either S I) more e h = row-open s p _ e n EitherRow refl (omega arith) ∙ simp (le-ltb n mostJobs h)
 
   is-range :
-      (id C : ℕ) (d : Sending) (more : List ℕ) → drop at s ≡ sendingBytes id C d ++ more → n < mostJobs → fine C d ≡ false →
-      rowEntry s at n ≡ bad (Range (place at))
+      (id C : ℕ) (d : Sending) (more : List ℕ) → drop (p .at) s ≡ sendingBytes id C d ++ more → n < mostJobs → fine C d ≡ false →
+      rowEntry s p n ≡ bad (Range p)
   is-range id C HereOnly more e h out =
       let l = sendingBytes id C HereOnly ++ more in
-      row-open s at l e n HereRow refl (omega arith) ∙ simp (lt-ltb n mostJobs h, word s at l e 2, word-whole C, out)
+      row-open s p l e n HereRow refl (omega arith) ∙ simp (lt-ltb n mostJobs h, word s p l e 2, word-whole C, out)
   is-range id C (Either S I) more e h out =
       let l = sendingBytes id C (Either S I) ++ more in
-      row-open s at l e n EitherRow refl (omega arith) ∙
-      simp (lt-ltb n mostJobs h, word s at l e 2, word s at l e 4, word s at l e 6, word-whole C, word-whole S, word-whole I, out)
+      row-open s p l e n EitherRow refl (omega arith) ∙
+      simp (lt-ltb n mostJobs h, word s p l e 2, word s p l e 4, word s p l e 6, word-whole C, word-whole S, word-whole I, out)
 
-frame-reads : (D : ℕ) (more : List ℕ) → frameAt (frameBytes D ++ more) ≡ cond (ltb 0 D && timeOk D) (Deadline D) (FrameRefused (Range (place 0)))
+-- the places of a table's first record and of the next
+first-place : behind [] ≡ start
+unfolding flatMap
+first-place = refl
+
+next-place : (D : ℕ) → behind (frameBytes D ∷ []) ≡ past start 2
+unfolding flatMap
+next-place D = refl
+
+frame-reads :
+    (D : ℕ) (more : List ℕ) →
+    frameAt (frameBytes D ++ more) start ≡ cond (ltb 0 D && timeOk D) (FrameIs D (past start 2)) (FrameRefused (Range start))
 unfolding frameAt
 frame-reads D more =
     let s = frameBytes D ++ more in
-    opened FrameRefused (λ (u : Unit {0}). deadlineAt s) frameOnly s 0 (sym frame-form) (omega arith) tt refl (omega arith) ∙
+    opened FrameRefused (λ (next : Place) (u : Unit {0}). deadlineAt s start next) frameOnly s start (sym frame-form) (omega arith) tt refl (omega arith) ∙
     simp (word-whole D)
 
 pub table-flat : (D : ℕ) (js : List Job) → tableBytes (record { deadline = D; jobs = js }) ≡ frameBytes D ++ flatMap jobBytes js ++ (0x1F ∷ [])
@@ -175,11 +187,12 @@ table-flat D js = ap (λ (l : List ℕ). frameBytes D ++ l) (jobs-flat js)
 
 -- every byte string is a table's or has a fault
 pub table-or-fault : (s : List ℕ) → All Byte s → (o : Outcome JobTable) × TableIs s o
-table-or-fault s bytes = step (unread-or-whole frameKinds 0 s)
+unfolding flatMap
+table-or-fault s bytes = step (unread-or-whole frameKinds (behind []) s)
   where
     rows :
-        (D : ℕ) → DeadlineOk D → ((js : List Job) × GoodList jobId TimesOk js × (s ≡ frameBytes D ++ flatMap jobBytes js ++ (0x1F ∷ []))) ⊎
-        ((f : Refusal) × ListFault jobId jobBytes TimesOk rowKinds 0x1F (frameBytes D) s f) → (o : Outcome JobTable) × TableIs s o
+        (D : ℕ) → DeadlineOk D → ((js : List Job) × GoodList jobId (TimesOk largestTime) js × (s ≡ frameBytes D ++ flatMap jobBytes js ++ (0x1F ∷ []))) ⊎
+        ((f : Refusal) × ListFault jobId jobBytes (TimesOk largestTime) rowKinds 0x1F (frameBytes D ∷ []) s f) → (o : Outcome JobTable) × TableIs s o
     rows D ok (inl t) = (
       accepted (record { deadline = D; jobs = t .0 }),
       (record { few = t .1 .few; distinct = t .1 .distinct; times = t .1 .each; low = ok .0; high = ok .1 }, t .2 ∙ sym (table-flat D (t .0))),
@@ -189,33 +202,39 @@ table-or-fault s bytes = step (unread-or-whole frameKinds 0 s)
     judged : (D : ℕ) (more : List ℕ) → s ≡ frameBytes D ++ more → All Byte more → DeadlineOk D ⊎ ¬ DeadlineOk D → (o : Outcome JobTable) × TableIs s o
     judged D more e b (inl ok) =
         rows D ok
-        (rw (← e) at (listed-or-fault jobId jobBytes TimesOk rowKinds 0x1F Byte
-        (λ j. decided (fine (j .local) (j .sending)) (fine-iff (j .id) (j .local) (j .sending))) record-is (frameBytes D) more b))
-    judged D more e b (inr out) = (refused (Range (place 0)), rw e (deadline D more out))
+        (rw (← e) at (listed-or-fault jobId jobBytes (TimesOk largestTime) rowKinds 0x1F Byte
+        (λ j. decided (fine (j .local) (j .sending)) (fine-iff (j .id) (j .local) (j .sending))) record-is (frameBytes D ∷ []) more b))
+    judged D more e b (inr out) = (refused (Range (behind [])), rw e (deadline D more out))
 
-    step : ((f : Refusal) × Unread frameKinds 0 s f) ⊎ Whole frameKinds s → (o : Outcome JobTable) × TableIs s o
+    step : ((f : Refusal) × Unread frameKinds (behind []) s f) ⊎ Whole frameKinds s → (o : Outcome JobTable) × TableIs s o
     step (inl u) = (refused (u .0), in-frame (u .1))
     step (inr w) = let f = frame-is s w bytes in judged (f .0) (f .1) (f .2) (f .3) (decided (ltb 0 (f .0) && timeOk (f .0)) (deadline-iff (f .0)))
 
 -- and is read so
-begins : {first s : List ℕ} {f : Refusal} → ListFault jobId jobBytes TimesOk rowKinds 0x1F first s f → (more : List ℕ) × (s ≡ first ++ more)
-begins {first} (fault js rest good y) = (flatMap jobBytes js ++ rest, append-assoc first (flatMap jobBytes js) rest)
+begins :
+    (D : ℕ) {s : List ℕ} {f : Refusal} → ListFault jobId jobBytes (TimesOk largestTime) rowKinds 0x1F (frameBytes D ∷ []) s f → (more : List ℕ) × (s ≡ frameBytes D ++ more)
+unfolding flatMap
+begins D (fault js rest good y) = (joined (map jobBytes js) ++ rest, refl)
 
 fault-read : {s : List ℕ} {f : Refusal} → TableFault s f → readTable s ≡ refused f
 unfolding readTable frameAt jobsRead
 fault-read {s} (in-frame u) =
-    ap (afterFrame s) (unread-refused FrameRefused (λ (v : Unit {0}). deadlineAt s) frameOnly frameKinds frame-others frame-these s 0 u refl)
+    ap (afterFrame s)
+    (unread-refused FrameRefused (λ (next : Place) (v : Unit {0}). deadlineAt s start next) frameOnly frameKinds frame-others frame-these s start
+    (rw first-place at u) refl)
 fault-read (deadline D more out) =
-    let first : frameAt (frameBytes D ++ more) ≡ FrameRefused (Range (place 0)) = frame-reads D more ∙ rw (fails _ (deadline-iff D) out) in
-    ap (afterFrame (frameBytes D ++ more)) first
+    let first : frameAt (frameBytes D ++ more) start ≡ FrameRefused (Range start) = frame-reads D more ∙ rw (fails _ (deadline-iff D) out) in
+    rw first-place (ap (afterFrame (frameBytes D ++ more)) first)
 fault-read {s} {f} (in-row D ok y) =
-    let more = begins y in
-    let first : frameAt s ≡ Deadline D = ap frameAt (more .1) ∙ (frame-reads D (more .0) ∙ rw (deadline-iff D .1 ok)) in
-    let jobs : jobsRead s ≡ refused f =
-    fault-refused jobId jobBytes TimesOk rowKinds 0x1F s (rowEntry s)
-    (is-unread s) (λ at n j m e h. is-many s at n (j .id) (j .local) (j .sending) m e h)
-    (λ at n j m e h out. is-range s at n (j .id) (j .local) (j .sending) m e h (fails _ (fine-iff (j .id) (j .local) (j .sending)) out))
-    (λ at n j m e h ok. job-back s at n m (j .id) (j .local) (j .sending) e ok h) (end-back s) y refl in
+    let more = begins D y in
+    let first : frameAt s start ≡ FrameIs D (past start 2) =
+    ap (λ (l : List ℕ). frameAt l start) (more .1) ∙ (frame-reads D (more .0) ∙ rw (deadline-iff D .1 ok)) in
+    let jobs : jobsRead s (past start 2) ≡ refused f =
+    rw (← next-place D)
+    (fault-refused jobId jobBytes (TimesOk largestTime) rowKinds 0x1F s (rowEntry s) job-any
+    (is-unread s) (λ p n j m e h. is-many s p n (j .id) (j .local) (j .sending) m e h)
+    (λ p n j m e h out. is-range s p n (j .id) (j .local) (j .sending) m e h (fails _ (fine-iff (j .id) (j .local) (j .sending)) out))
+    (λ p n j m e h ok. job-back s p n m (j .id) (j .local) (j .sending) e ok h) (end-back s) y refl) in
     ap (afterFrame s) first ∙ ap (withDeadline D) jobs
 
 pub table-read : (s : List ℕ) (o : Outcome JobTable) → TableIs s o → readTable s ≡ o

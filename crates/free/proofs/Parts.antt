@@ -51,7 +51,7 @@ pub choose-length : (js : List Job) (flags : List Bool) → length (choose js fl
 choose-length js flags = sym (length-map (choose js flags) (λ (x : Chosen). x .job)) ∙ ap length (choose-jobs js flags)
 
 -- spans are no longer than the largest time
-pub choose-short : (js : List Job) (flags : List Bool) → All TimesOk js → All (λ (c : Chosen). span c ≤ largestTime) (choose js flags)
+pub choose-short : (js : List Job) (flags : List Bool) → All (TimesOk largestTime) js → All (λ (c : Chosen). span c ≤ largestTime) (choose js flags)
 choose-short [] flags a = tt
 choose-short (j ∷ js) [] a = (span-short largestTime (chosen j false) (a .0 .local) (a .0 .setup), choose-short js [] (a .1))
 choose-short (j ∷ js) (f ∷ flags) a = (span-short largestTime (chosen j f) (a .0 .local) (a .0 .setup), choose-short js flags (a .1))

@@ -89,7 +89,7 @@ module _ (t : JobTable) (plan : List ℕ) (steps : ℕ) where
         let short : All (λ (c : Chosen). span c ≤ largestTime) (w .cs) =
         all-map
         (λ c e.
-        let ok = member-all TimesOk (good .times) (with-tells jobId (t .jobs) _ _ e .0) in
+        let ok = member-all (TimesOk largestTime) (good .times) (with-tells jobId (t .jobs) _ _ e .0) in
         span-short largestTime c (ok .local) (ok .setup))
         (w .cs) (l .named) in
         let few = accepted-plan plan (w .xs) (w .reads) .0 in

@@ -19,15 +19,16 @@ use Rattle.table.specs.declared.kind.StepKind.{StepKind}
 use Rattle.table.specs.declared.kind.StepKind.the-variants.{HereStep, AwayStep, EndStep}
 use Rattle.table.specs.declared.kind.Meaning.{Meaning}
 use Rattle.table.specs.declared.kind.Form.{Form}
+use Rattle.table.specs.declared.refusal.Place.{Place}
 use Rattle.table.specs.declared.FrameRead.{FrameRead}
-use Rattle.table.specs.declared.FrameRead.the-variants.{Deadline, FrameRefused}
+use Rattle.table.specs.declared.FrameRead.the-variants.{FrameRefused}
 use Rattle.table.specs.declared.JobRead.the-variants.{JobRefused}
 use Rattle.table.specs.Limits.{mostJobs}
-use Rattle.table.specs.Refusals.{place, Outcome, accepted, refused}
+use Rattle.table.specs.Refusals.{start, past, Outcome, accepted, refused}
 use Rattle.table.specs.Records.{formOf, frameOnly, rowOnly, allowed, judged, Entry, one, last, bad, used, follow, listFrom}
 use Rattle.table.specs.Tables.{deadlineAt, frameAt, rowBody, jobAt, jobEntry, jobId, jobsRead, withDeadline, afterFrame, readTable}
 use Rattle.table.proofs.Records.{rowLength, stepLength, form-all}
-use Rattle.table.proofs.Tables.{rowEntry, row-is}
+use Rattle.table.proofs.Tables.{frame-all, rowEntry, row-is}
 use Rattle.listing.specs.Listing.{outcomeText, textOf}
 use Rattle.table.proofs.Written.{end-next}
 use Rattle.listing.proofs.Places.{Near, near-first, near-next}
@@ -77,74 +78,76 @@ module _ (s : List ℕ) (N : ℕ) (enough : 267 ≤ N) where
 
   -- a record that begins eight bytes before N is judged alike
   judged-same :
-      {K R : Type 0} (refuse : Refusal → R) (read read′ : K → R) (may : Meaning → Option K) (at : ℕ) → at + 8 ≤ N →
-      ((k : K) → read′ k ≡ read k) → judged refuse read′ may front at ≡ judged refuse read may s at
+      {K R : Type 0} (refuse : Refusal → R) (read read′ : Place → K → R) (may : Meaning → Option K) (p : Place) → p .at + 8 ≤ N →
+      ((next : Place) (k : K) → read′ next k ≡ read next k) → judged refuse read′ may front p ≡ judged refuse read may s p
   unfolding judged
-  judged-same {K} {R} refuse read read′ may at h same =
-      let body = formOf (getD s at 0) .body in
-      rw (byte at (omega arith), here-same at (omega arith), whole-same at body (omega (arith, body-short (getD s at 0))))
-      (ap (λ (r : R). cond (ltb at (length s)) r (refuse (Short (place at)))) (meant (leb body (length s - (at + 1))) (may (formOf (getD s at 0) .meaning))))
+  judged-same {K} {R} refuse read read′ may p h same =
+      let form = formOf (getD s (p .at) 0) in
+      rw (byte (p .at) (omega arith), here-same (p .at) (omega arith), whole-same (p .at) (form .body) (omega (arith, body-short (getD s (p .at) 0))))
+      (ap (λ (r : R). cond (ltb (p .at) (length s)) r (refuse (Short p))) (meant (form .body) (leb (form .body) (length s - (p .at + 1))) (may (form .meaning))))
     where
-      meant : (whole : Bool) (o : Option K) → allowed refuse read′ at whole o ≡ allowed refuse read at whole o
-      meant whole none = refl
-      meant whole (some k) = ap (λ (r : R). cond whole r (refuse (Short (place at)))) (same k)
+      meant : (body : ℕ) (whole : Bool) (o : Option K) → allowed refuse read′ p body whole o ≡ allowed refuse read p body whole o
+      meant body whole none = refl
+      meant body whole (some k) = ap (λ (r : R). cond whole r (refuse (Short p))) (same (past p body) k)
 
-  frame-same : frameAt front ≡ frameAt s
+  frame-same : frameAt front start ≡ frameAt s start
   unfolding frameAt
   frame-same =
-      judged-same FrameRefused (λ (u : Unit {0}). deadlineAt s) (λ (u : Unit {0}). deadlineAt front) frameOnly 0 (omega arith)
-      (λ u. rw (byte 1 (omega arith), byte 2 (omega arith)))
+      judged-same FrameRefused (λ (next : Place) (u : Unit {0}). deadlineAt s start next) (λ (next : Place) (u : Unit {0}). deadlineAt front start next)
+      frameOnly start (omega arith)
+      (λ next u. rw (byte 1 (omega arith), byte 2 (omega arith)))
 
-  body-same : (at n : ℕ) → at + 8 ≤ N → (k : RowKind) → rowBody front at n k ≡ rowBody s at n k
-  body-same at n h HereRow = simp (byte (at + 1) (omega arith), byte (at + 2) (omega arith), byte (at + 2 + 1) (omega arith))
-  body-same at n h EitherRow =
+  body-same : (p : Place) (n : ℕ) → p .at + 8 ≤ N → (next : Place) (k : RowKind) → rowBody front p n next k ≡ rowBody s p n next k
+  body-same p n h next HereRow = simp (byte (p .at + 1) (omega arith), byte (p .at + 2) (omega arith), byte (p .at + 2 + 1) (omega arith))
+  body-same p n h next EitherRow =
       simp (
-        byte (at + 1) (omega arith),
-        byte (at + 2) (omega arith),
-        byte (at + 2 + 1) (omega arith),
-        byte (at + 4) (omega arith),
-        byte (at + 4 + 1) (omega arith),
-        byte (at + 6) (omega arith),
-        byte (at + 6 + 1) (omega arith),
+        byte (p .at + 1) (omega arith),
+        byte (p .at + 2) (omega arith),
+        byte (p .at + 2 + 1) (omega arith),
+        byte (p .at + 4) (omega arith),
+        byte (p .at + 4 + 1) (omega arith),
+        byte (p .at + 6) (omega arith),
+        byte (p .at + 6 + 1) (omega arith),
       )
-  body-same at n h EndRow = refl
+  body-same p n h next EndRow = refl
 
-  row-same : (at n : ℕ) → at + 8 ≤ N → rowEntry front at n ≡ rowEntry s at n
+  row-same : (p : Place) (n : ℕ) → p .at + 8 ≤ N → rowEntry front p n ≡ rowEntry s p n
   unfolding jobAt
-  row-same at n h = ap jobEntry (judged-same JobRefused (rowBody s at n) (rowBody front at n) rowOnly at h (body-same at n h))
+  row-same p n h = ap jobEntry (judged-same JobRefused (rowBody s p n) (rowBody front p n) rowOnly p h (body-same p n h))
 
   -- and so are all records
   list-same :
-      (left : ℕ) (before : List Job) (at : ℕ) → Near before at →
-      listFrom jobId (rowEntry front) (length front) left before at ≡ listFrom jobId (rowEntry s) (length s) left before at
+      (left : ℕ) (before : List Job) (p : Place) → Near before p →
+      listFrom jobId (rowEntry front) (length front) left before p ≡ listFrom jobId (rowEntry s) (length s) left before p
   unfolding listFrom
-  list-same zero before at near = refl
-  list-same (suc left) before at near =
+  list-same zero before p near = refl
+  list-same (suc left) before p near =
       let few = near .few in
       let close = near .near in
-      rw (row-same at (length before) (omega arith)) (go (rowEntry s at (length before)) refl (list-same left))
+      rw (row-same p (length before) (omega arith)) (go (rowEntry s p (length before)) refl (list-same left))
     where
       go :
-          (a : Entry Job) → rowEntry s at (length before) ≡ a →
-          ((js : List Job) (p : ℕ) → Near js p → listFrom jobId (rowEntry front) (length front) left js p ≡ listFrom jobId (rowEntry s) (length s) left js p) →
-          follow jobId (rowEntry front) (length front) (listFrom jobId (rowEntry front) (length front) left) before at a ≡
-          follow jobId (rowEntry s) (length s) (listFrom jobId (rowEntry s) (length s) left) before at a
-      go (one j p) e on =
-          ap (λ (o : Outcome (List Job)). cond (used (map jobId before) (jobId j)) (refused (Twice (place at))) o)
-          (on (before ++ (j ∷ [])) p (near-next near (row-is s at (length before) e)))
-      go (last p) e on =
+          (a : Entry Job) → rowEntry s p (length before) ≡ a →
+          ((js : List Job) (q : Place) → Near js q → listFrom jobId (rowEntry front) (length front) left js q ≡ listFrom jobId (rowEntry s) (length s) left js q) →
+          follow jobId (rowEntry front) (length front) (listFrom jobId (rowEntry front) (length front) left) before p a ≡
+          follow jobId (rowEntry s) (length s) (listFrom jobId (rowEntry s) (length s) left) before p a
+      go (one j next) e on =
+          ap (λ (o : Outcome (List Job)). cond (used (map jobId before) (jobId j)) (refused (Twice p)) o)
+          (on (before ++ (j ∷ [])) next (near-next near (row-is s p (length before) e)))
+      go (last next) e on =
           let few = near .few in
           let close = near .near in
-          ap (λ (t : Bool). cond t (accepted before) (refused (After (place p)))) (end-same p (omega (arith, end-next (row-is s at (length before) e))))
+          let there : next .at ≡ p .at + 1 + 0 = ap (λ (q : Place). q .at) (end-next (row-is s p (length before) e)) in
+          ap (λ (t : Bool). cond t (accepted before) (refused (After next))) (end-same (next .at) (omega arith))
       go (bad f) e on = refl
 
   pub read-settled : readTable front ≡ readTable s
   unfolding readTable jobsRead
-  read-settled = rw frame-same (go (frameAt s))
-    where
-      go : (a : FrameRead) → afterFrame front a ≡ afterFrame s a
-      go (Deadline D) = ap (withDeadline D) (list-same (suc mostJobs) [] 3 near-first)
-      go (FrameRefused f) = refl
+  read-settled =
+      rw frame-same
+      (frame-all s start (λ (a : FrameRead). afterFrame front a ≡ afterFrame s a)
+      (λ f. refl)
+      (λ kind whole low high. ap (withDeadline _) (list-same (suc mostJobs) [] (past start 2) near-first)))
 
   pub settled-by : textOf front ≡ textOf s
   unfolding textOf

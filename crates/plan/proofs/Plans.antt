@@ -4,20 +4,21 @@ use Prim.Native.Nat.{ℕ, zero, suc, _+_, _-_, _*_, _≤_, _<_}
 use mathlib.Core.Path.{_≡_, refl, sym, ap, _∙_}
 use mathlib.Core.Bool.{Bool, true, false, cond}
 use mathlib.Core.List.{List, [], _∷_, _++_, flatMap}
-use lib.ListN.{length, getD, drop, length-drop}
+use lib.ListN.{length, getD, drop}
 use lib.Dec.{eqb}
-use native.Mathlib.Nat.{add-zero}
 use native.Mathlib.Omega.{arith}
 use borrow.Author.Tests.{lt-ltb}
 use Rattle.model.proofs.Lists.{all-all}
+use Rattle.table.specs.declared.refusal.Place.{Place}
 use Rattle.table.specs.declared.kind.StepKind.{StepKind}
 use Rattle.table.specs.declared.kind.StepKind.the-variants.{HereStep, AwayStep, EndStep}
 use Rattle.table.specs.declared.kind.Meaning.the-variants.{Step as StepOf}
 use Rattle.table.specs.Limits.{mostJobs, longestPlan}
-use Rattle.table.specs.Refusals.{accepted}
+use Rattle.table.specs.Refusals.{start, past, accepted}
+use Rattle.table.specs.Kinds.{runHere, sendAway, planEnd}
 use Rattle.table.specs.Records.{form, formOf, stepOnly, one, last}
 use Rattle.table.proofs.Records.{stepByte, stepLength, opened}
-use Rattle.table.proofs.ReadBack.{peek}
+use Rattle.table.proofs.ReadBack.{peek, kind-byte, long}
 use Rattle.table.proofs.Listed.{Distinct, listed-good, listed-bytes, listed-back}
 use Rattle.plan.specs.declared.Step.{Step}
 use Rattle.plan.specs.declared.RecordRead.the-variants.{RecordRefused}
@@ -25,7 +26,7 @@ use Rattle.plan.specs.Plans.{stepBody, recordAt, stepEntry, stepId, read
 use Rattle.plan.proofs.Steps.{planEntry, step-read, end-read, plan-length}
 
 -- the bytes of a plan are those of its steps, and then the end record's
-pub plan-flat : (xs : List Step) → planBytes xs ≡ flatMap stepBytes xs ++ (0x2F ∷ [])
+pub plan-flat : (xs : List Step) → planBytes xs ≡ flatMap stepBytes xs ++ (planEnd ∷ [])
 unfolding planBytes flatMap
 plan-flat [] = refl
 plan-flat (x ∷ xs) = ap (λ (l : List ℕ). stepBytes x ++ l) (plan-flat xs)
@@ -33,13 +34,13 @@ plan-flat (x ∷ xs) = ap (λ (l : List ℕ). stepBytes x ++ l) (plan-flat xs)
 module _ (s : List ℕ) (xs : List Step) (e : readPlan s ≡ accepted xs) where
   pub accepted-plan : (length xs ≤ mostJobs) × Distinct stepId xs
   unfolding readPlan
-  accepted-plan = listed-good stepId (planEntry s) (length s) (λ at n x p r. step-read s at n x p r .0) 0 xs e
+  accepted-plan = listed-good stepId (planEntry s) (length s) (λ p n x next r. step-read s p n x next r .0) start xs e
 
   -- one byte string reads as a plan: the plan's bytes
   pub read-bytes : s ≡ planBytes xs
   unfolding readPlan
   read-bytes =
-      listed-bytes stepId s (planEntry s) stepBytes (0x2F ∷ []) (λ at n x p r. step-read s at n x p r .1) (end-read s) 0 xs e ∙
+      listed-bytes stepId s (planEntry s) stepBytes (planEnd ∷ []) (λ p n x next r. step-read s p n x next r .1) (end-read s) start xs e ∙
       sym (plan-flat xs)
 
   pub accepted-length : length s ≤ longestPlan
@@ -48,7 +49,7 @@ module _ (s : List ℕ) (xs : List Step) (e : readPlan s ≡ accepted xs) where
 -- the two bytes of the k-th step
 bytes-at :
     (xs : List Step) (k : ℕ) → k < length xs →
-    (getD (planBytes xs) (2 * k) 0 ≡ cond (getD xs k noStep .away) 0x21 0x20) × (getD (planBytes xs) (2 * k + 1) 0 ≡ getD xs k noStep .id)
+    (getD (planBytes xs) (2 * k) 0 ≡ cond (getD xs k noStep .away) sendAway runHere) × (getD (planBytes xs) (2 * k + 1) 0 ≡ getD xs k noStep .id)
 unfolding planBytes
 bytes-at [] k h = absurd (omega arith)
 bytes-at (x ∷ xs) zero h = (refl, refl)
@@ -59,7 +60,7 @@ bytes-at (x ∷ xs) (suc k) h =
     (rw kind (later .0), rw id (later .1))
 
 -- the kind byte tells the choice
-kind-tells : (away : Bool) → eqb (cond away 0x21 0x20) 0x21 ≡ away
+kind-tells : (away : Bool) → eqb (cond away sendAway runHere) sendAway ≡ away
 kind-tells true = refl
 kind-tells false = refl
 
@@ -78,24 +79,27 @@ kind-form HereStep = refl
 kind-form AwayStep = refl
 kind-form EndStep = refl
 
-module _ (s : List ℕ) (at n : ℕ) where
+module _ (s : List ℕ) (p : Place) (n : ℕ) where
   -- a whole record of a kind is read as that kind's body
-  pub opens : (k : StepKind) (body : List ℕ) → drop at s ≡ stepByte k ∷ body → stepLength k ≤ length body → recordAt s at n ≡ stepBody s at n k
+  pub opens :
+      (k : StepKind) (body : List ℕ) → drop (p .at) s ≡ stepByte k ∷ body → stepLength k ≤ length body →
+      recordAt s p n ≡ stepBody s p n (past p (stepLength k)) k
   unfolding recordAt
   opens k body e whole =
-      let size : length s - at ≡ suc (length body) = sym (length-drop at s) ∙ ap length e in
-      let kind : getD s at 0 ≡ stepByte k = rw add-zero at (peek s at _ e 0) in
-      opened RecordRefused (stepBody s at n) stepOnly s at {f = form (StepOf k) (stepLength k)}
-      (sym (rw kind (kind-form k))) (omega arith) k refl (omega arith)
+      let size = long s p _ e in
+      opened RecordRefused (stepBody s p n) stepOnly s p {f = form (StepOf k) (stepLength k)}
+      (sym (rw (kind-byte s p _ e) (kind-form k))) (omega arith) k refl (omega arith)
 
-  pub step-back : (x : Step) (rest : List ℕ) → drop at s ≡ stepBytes x ++ rest → n < mostJobs → planEntry s at n ≡ one x (at + 2)
+  pub step-back : (x : Step) (rest : List ℕ) → drop (p .at) s ≡ stepBytes x ++ rest → n < mostJobs → planEntry s p n ≡ one x (past p 1)
   step-back x rest e few = go (x .away) e
     where
-      go : (away : Bool) → drop at s ≡ cond away 0x21 0x20 ∷ x .id ∷ rest → planEntry s at n ≡ one (record { id = x .id; away = away }) (at + 2)
-      go true b = ap stepEntry (opens AwayStep (x .id ∷ rest) b (omega arith)) ∙ simp (lt-ltb n mostJobs few, peek s at _ b 1)
-      go false b = ap stepEntry (opens HereStep (x .id ∷ rest) b (omega arith)) ∙ simp (lt-ltb n mostJobs few, peek s at _ b 1)
+      go :
+          (away : Bool) → drop (p .at) s ≡ cond away sendAway runHere ∷ x .id ∷ rest →
+          planEntry s p n ≡ one (record { id = x .id; away = away }) (past p 1)
+      go true b = ap stepEntry (opens AwayStep (x .id ∷ rest) b (omega arith)) ∙ simp (lt-ltb n mostJobs few, peek s p _ b 1)
+      go false b = ap stepEntry (opens HereStep (x .id ∷ rest) b (omega arith)) ∙ simp (lt-ltb n mostJobs few, peek s p _ b 1)
 
-  pub end-back : (more : List ℕ) → drop at s ≡ 0x2F ∷ more → planEntry s at n ≡ last (at + 1)
+  pub end-back : (more : List ℕ) → drop (p .at) s ≡ planEnd ∷ more → planEntry s p n ≡ last (past p 0)
   end-back more e = ap stepEntry (opens EndStep more e (omega arith))
 
 -- a plan that is written reads back as the same plan
@@ -103,5 +107,5 @@ pub plan-back : (xs : List Step) → length xs ≤ mostJobs → Distinct stepId 
 unfolding readPlan
 plan-back xs few distinct =
     let s = planBytes xs in
-    listed-back stepId s (planEntry s) stepBytes (λ (x : Step). Unit {0}) (λ at n x rest e room u. step-back s at n x rest e room) 0x2F (end-back s)
-    0 xs few distinct (all-all (λ x. tt) xs) (plan-flat xs)
+    listed-back stepId s (planEntry s) stepBytes (λ (x : Step). Unit {0}) (λ x. omega arith) (λ p n x rest e room u. step-back s p n x rest e room)
+    planEnd (end-back s) start xs few distinct (all-all (λ x. tt) xs) (plan-flat xs)

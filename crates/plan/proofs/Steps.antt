@@ -7,17 +7,20 @@ use mathlib.Core.List.{List, [], _∷_, _++_}
 use lib.ListN.{length, getD, drop, replicate, length-map, length-append, drop-of-length-le}
 use lib.Seq.{take-append-seam, drop-cons}
 use lib.Dec.{ltb, leb}
+use native.Mathlib.Nat.{add-zero}
 use native.Mathlib.Numerals.{add-one}
 use native.Mathlib.Omega.{arith}
 use borrow.Author.Tests.{ltb-true}
 use Rattle.model.specs.Timetable.{Chosen}
 use Rattle.model.proofs.Lists.{clash}
+use Rattle.table.specs.declared.refusal.Place.{Place}
 use Rattle.table.specs.declared.refusal.Refusal.{Refusal}
 use Rattle.table.specs.declared.refusal.Refusal.the-variants.{After}
 use Rattle.table.specs.declared.kind.StepKind.{StepKind}
 use Rattle.table.specs.declared.kind.StepKind.the-variants.{HereStep, AwayStep, EndStep}
 use Rattle.table.specs.Limits.{mostJobs}
-use Rattle.table.specs.Refusals.{place, accepted, refused}
+use Rattle.table.specs.Refusals.{past, accepted, refused}
+use Rattle.table.specs.Kinds.{runHere, sendAway, planEnd}
 use Rattle.table.specs.Records.{stepOnly, Entry, one, last}
 use Rattle.table.proofs.Records.{stepByte, stepLength, cond-all, step-kind, is-step, judged-all}
 use Rattle.table.proofs.Listed.{padded-more}
@@ -28,63 +31,62 @@ use Rattle.plan.specs.declared.RecordRead.the-variants.{RecordIs, Record
 use Rattle.plan.specs.Plans.{stepBody, recordAt, stepEntry, planRead, endedAt, stepBytes, planBytes, noStep, planOf, stepsOf, withStep, stepOf, stepsFor}
 
 -- the reading of one record of a plan
-abbrev pub planEntry : List ℕ → ℕ → ℕ → Entry Step
-planEntry s at n = stepEntry (recordAt s at n)
+abbrev pub planEntry : List ℕ → Place → ℕ → Entry Step
+planEntry s p n = stepEntry (recordAt s p n)
 
 -- What holds of every refusal, of each whole step and of the end holds of the record at a place.
 module _
-    (s : List ℕ) (at n : ℕ) (P : RecordRead → Type 0) (out : (f : Refusal) → P (RecordRefused f))
+    (s : List ℕ) (p : Place) (n : ℕ) (P : RecordRead → Type 0) (out : (f : Refusal) → P (RecordRefused f))
     (listed :
-    (away : Bool) → getD s at 0 ≡ cond away 0x21 0x20 → at + 2 ≤ length s → n < mostJobs →
-    P (RecordIs (Listed (record { id = getD s (at + 1) 0; away = away }) (place (at + 2)))))
-    (end : getD s at 0 ≡ 0x2F → at + 1 ≤ length s → P (RecordIs (Last (place (at + 1))))) where
-  body-all : (k : StepKind) → getD s at 0 ≡ stepByte k → at + 1 + stepLength k ≤ length s → P (stepBody s at n k)
-  body-all HereStep b h = cond-all P (ltb n mostJobs) (λ few. listed false b (omega arith) (ltb-true _ _ few)) (λ o. out _)
-  body-all AwayStep b h = cond-all P (ltb n mostJobs) (λ few. listed true b (omega arith) (ltb-true _ _ few)) (λ o. out _)
-  body-all EndStep b h = end b (omega arith)
+    (away : Bool) → getD s (p .at) 0 ≡ cond away sendAway runHere → past p 1 .at ≤ length s → n < mostJobs →
+    P (RecordIs (Listed (record { id = getD s (p .at + 1) 0; away = away }) (past p 1))))
+    (end : getD s (p .at) 0 ≡ planEnd → past p 0 .at ≤ length s → P (RecordIs (Last (past p 0)))) where
+  body-all : (k : StepKind) → getD s (p .at) 0 ≡ stepByte k → past p (stepLength k) .at ≤ length s → P (stepBody s p n (past p (stepLength k)) k)
+  body-all HereStep b h = cond-all P (ltb n mostJobs) (λ few. listed false b h (ltb-true _ _ few)) (λ o. out _)
+  body-all AwayStep b h = cond-all P (ltb n mostJobs) (λ few. listed true b h (ltb-true _ _ few)) (λ o. out _)
+  body-all EndStep b h = end b h
 
-  record-all : P (recordAt s at n)
+  record-all : P (recordAt s p n)
   unfolding recordAt
   record-all =
-      judged-all RecordRefused (stepBody s at n) stepOnly s at P out
+      judged-all RecordRefused (stepBody s p n) stepOnly s p P out
       (λ k there may fits.
-      let step = step-kind (getD s at 0) k (is-step _ k may) in
-      body-all k (step .0) (omega (arith, step .1)))
+      let step = step-kind (getD s (p .at) 0) k (is-step _ k may) in
+      rw (step .1) (body-all k (step .0) (omega (arith, step .1))))
 
 one-byte : (s : List ℕ) (at : ℕ) → at < length s → drop at s ≡ getD s at 0 ∷ drop (at + 1) s
 one-byte s at h = rw add-one (drop-cons s at 0 h)
 
-two-bytes : (s : List ℕ) (at : ℕ) → at + 2 ≤ length s → drop at s ≡ getD s at 0 ∷ getD s (at + 1) 0 ∷ drop (at + 2) s
-two-bytes s at h =
-    let e : at + 2 ≡ at + 1 + 1 = omega arith in
-    rw (e, ← one-byte s (at + 1) (omega arith)) (one-byte s at (omega arith))
+two-bytes : (s : List ℕ) (at : ℕ) → at + 1 + 1 ≤ length s → drop at s ≡ getD s at 0 ∷ getD s (at + 1) 0 ∷ drop (at + 1 + 1) s
+two-bytes s at h = rw (← one-byte s (at + 1) (omega arith)) (one-byte s at (omega arith))
 
 -- a step is read only while there is room, and its bytes stand there
-pub step-read : (s : List ℕ) (at n : ℕ) (x : Step) (p : ℕ) → planEntry s at n ≡ one x p → (n < mostJobs) × (drop at s ≡ stepBytes x ++ drop p s)
-step-read s at n x p =
-    record-all s at n (λ (a : RecordRead). stepEntry a ≡ one x p → (n < mostJobs) × (drop at s ≡ stepBytes x ++ drop p s))
+pub step-read :
+    (s : List ℕ) (p : Place) (n : ℕ) (x : Step) (next : Place) → planEntry s p n ≡ one x next →
+    (n < mostJobs) × (drop (p .at) s ≡ stepBytes x ++ drop (next .at) s)
+step-read s p n x next =
+    record-all s p n (λ (a : RecordRead). stepEntry a ≡ one x next → (n < mostJobs) × (drop (p .at) s ≡ stepBytes x ++ drop (next .at) s))
     (λ f e. clash (cc))
     (λ away b h few e.
-    let is : record { id = getD s (at + 1) 0; away = away } ≡ x = cc in
-    let after : at + 2 ≡ p = cc in
-    (few, rw (← is, ← after, ← b) (two-bytes s at h)))
+    let is : record { id = getD s (p .at + 1) 0; away = away } ≡ x = cc in
+    let after : past p 1 ≡ next = cc in
+    (few, rw (← is, ← after, ← b) (two-bytes s (p .at) h)))
     (λ b h e. clash (cc))
 
-pub end-read : (s : List ℕ) (at n p : ℕ) → planEntry s at n ≡ last p → drop at s ≡ (0x2F ∷ []) ++ drop p s
-end-read s at n p =
-    record-all s at n (λ (a : RecordRead). stepEntry a ≡ last p → drop at s ≡ (0x2F ∷ []) ++ drop p s)
+pub end-read :
+    (s : List ℕ) (p : Place) (n : ℕ) (next : Place) → planEntry s p n ≡ last next → drop (p .at) s ≡ (planEnd ∷ []) ++ drop (next .at) s
+end-read s p n next =
+    record-all s p n (λ (a : RecordRead). stepEntry a ≡ last next → drop (p .at) s ≡ (planEnd ∷ []) ++ drop (next .at) s)
     (λ f e. clash (cc))
     (λ away b h few e. clash (cc))
-    (λ b h e. let after : at + 1 ≡ p = cc in rw (← after, ← b) (one-byte s at (omega arith)))
+    (λ b h e. let after : past p 0 ≡ next = cc in rw (← after, ← b, add-zero) (one-byte s (p .at) (omega arith)))
 
 -- the end of the loop, told of the list and of the count
 pub ended-count :
-    (s : List ℕ) (xs : List Step) (at : ℕ) → endedAt s (length xs) at ≡ planRead (cond (leb (length s) at) (accepted xs) (refused (After (place at))))
-ended-count s xs at = go (leb (length s) at)
+    (s : List ℕ) (xs : List Step) (p : Place) → endedAt s (length xs) p ≡ planRead (cond (leb (length s) (p .at)) (accepted xs) (refused (After p)))
+ended-count s xs p = go (leb (length s) (p .at))
   where
-    go :
-        (whole : Bool) →
-        cond whole (planRead (accepted xs)) (planRead (refused (After (place at)))) ≡ planRead (cond whole (accepted xs) (refused (After (place at))))
+    go : (whole : Bool) → cond whole (planRead (accepted xs)) (planRead (refused (After p))) ≡ planRead (cond whole (accepted xs) (refused (After p)))
     go true = refl
     go false = refl
 
@@ -106,7 +108,7 @@ pub bytes-more : (xs : List Step) (i : ℕ) → i < length xs → planBytes (dro
 unfolding planBytes
 bytes-more xs i h = simp (drop-cons xs i noStep h, add-one)
 
-pub bytes-done : (xs : List Step) (i : ℕ) → length xs ≤ i → planBytes (drop i xs) ≡ 0x2F ∷ []
+pub bytes-done : (xs : List Step) (i : ℕ) → length xs ≤ i → planBytes (drop i xs) ≡ planEnd ∷ []
 unfolding planBytes
 bytes-done xs i h = rw (drop-of-length-le xs {i = i} h)
 

@@ -6,12 +6,14 @@ use mathlib.Core.List.{List, [], _∷_, _++_, map}
 use lib.ListN.{length, getD, take, set, replicate}
 use lib.Dec.{ltb, leb, eqb}
 use Rattle.model.specs.Timetable.{Chosen}
+use Rattle.table.specs.declared.refusal.Place.{Place}
 use Rattle.table.specs.declared.refusal.Refusal.{Refusal}
 use Rattle.table.specs.declared.refusal.Refusal.the-variants.{Many, After, None}
 use Rattle.table.specs.declared.kind.StepKind.{StepKind}
 use Rattle.table.specs.declared.kind.StepKind.the-variants.{HereStep, AwayStep, EndStep}
 use Rattle.table.specs.Limits.{mostJobs}
-use Rattle.table.specs.Refusals.{refusalSays, place, Outcome, accepted, refused}
+use Rattle.table.specs.Refusals.{start, refusalSays, Outcome, accepted, refused}
+use Rattle.table.specs.Kinds.{runHere, sendAway, planEnd}
 use Rattle.table.specs.Records.{stepOnly, judged, Entry, one, last, bad, listFrom}
 use Rattle.plan.specs.declared.Step.{Step}
 use Rattle.plan.specs.declared.Record.the-variants.{Listed, Last}
@@ -22,32 +24,32 @@ use Rattle.plan.specs.declared.PlanRead.the-variants.{PlanIs, PlanRefuse
 use Rattle.plan.specs.declared.Plan.{Plan}
 
 -- "33rd job MANY", where `count` steps stand before
-abbrev pub listedAt : List ℕ → ℕ → ℕ → Bool → RecordRead
-listedAt s at count away =
+abbrev pub listedAt : List ℕ → Place → Place → ℕ → Bool → RecordRead
+listedAt s p next count away =
     cond (ltb count mostJobs)
-    (RecordIs (Listed (record { id = getD s (at + 1) 0; away = away }) (place (at + 2))))
-    (RecordRefused (Many (place at)))
+    (RecordIs (Listed (record { id = getD s (p .at + 1) 0; away = away }) next))
+    (RecordRefused (Many p))
 
 -- "plan: run here, id", "plan: send away, id", "end of plan"
-abbrev pub stepBody : List ℕ → ℕ → ℕ → StepKind → RecordRead
-stepBody s at count HereStep = listedAt s at count false
-stepBody s at count AwayStep = listedAt s at count true
-stepBody s at count EndStep = RecordIs (Last (place (at + 1)))
+abbrev pub stepBody : List ℕ → Place → ℕ → Place → StepKind → RecordRead
+stepBody s p count next HereStep = listedAt s p next count false
+stepBody s p count next AwayStep = listedAt s p next count true
+stepBody s p count next EndStep = RecordIs (Last next)
 
-unfoldable pub recordAt : List ℕ → ℕ → ℕ → RecordRead
-recordAt s at count = judged RecordRefused (stepBody s at count) stepOnly s at
+unfoldable pub recordAt : List ℕ → Place → ℕ → RecordRead
+recordAt s p count = judged RecordRefused (stepBody s p count) stepOnly s p
 
 -- a record's answer as the reading of one record
 abbrev pub stepEntry : RecordRead → Entry Step
-stepEntry (RecordIs (Listed x p)) = one x (p .at)
-stepEntry (RecordIs (Last p)) = last (p .at)
+stepEntry (RecordIs (Listed x next)) = one x next
+stepEntry (RecordIs (Last next)) = last next
 stepEntry (RecordRefused f) = bad f
 
 abbrev pub stepId : Step → ℕ
 stepId x = x .id
 
 unfoldable pub readPlan : List ℕ → Outcome (List Step)
-readPlan s = listFrom stepId (λ (at count : ℕ). stepEntry (recordAt s at count)) (length s) (suc mostJobs) [] 0
+readPlan s = listFrom stepId (λ (p : Place) (count : ℕ). stepEntry (recordAt s p count)) (length s) (suc mostJobs) [] start
 
 -- what `read_plan` answers: how many steps, or the refusal
 abbrev pub planRead : Outcome (List Step) → PlanRead
@@ -65,16 +67,16 @@ refusalOf (RecordIs x) = None
 refusalOf (RecordRefused f) = f
 
 -- what `ended_at` answers: "After the end record, AFTER", told of how many steps there are
-abbrev pub endedAt : List ℕ → ℕ → ℕ → PlanRead
-endedAt s count at = cond (leb (length s) at) (PlanIs count) (PlanRefused (After (place at)))
+abbrev pub endedAt : List ℕ → ℕ → Place → PlanRead
+endedAt s count p = cond (leb (length s) (p .at)) (PlanIs count) (PlanRefused (After p))
 
 -- The bytes of a plan: the one byte string that reads as it.
 
 abbrev pub stepBytes : Step → List ℕ
-stepBytes x = cond (x .away) 0x21 0x20 ∷ x .id ∷ []
+stepBytes x = cond (x .away) sendAway runHere ∷ x .id ∷ []
 
 unfoldable pub planBytes : List Step → List ℕ
-planBytes [] = 0x2F ∷ []
+planBytes [] = planEnd ∷ []
 planBytes (x ∷ xs) = stepBytes x ++ planBytes xs
 
 -- the k-th step, read where it stands; an id 0 kept here past the last one
@@ -84,7 +86,7 @@ noStep = record { id = 0; away = false }
 unfoldable pub stepAt : List ℕ → ℕ → Step
 stepAt s k =
     cond (ltb (2 * k + 1) (length s))
-    (record { id = getD s (2 * k + 1) 0; away = eqb (getD s (2 * k) 0) 0x21 })
+    (record { id = getD s (2 * k + 1) 0; away = eqb (getD s (2 * k) 0) sendAway })
     noStep
 
 -- A plan as the code holds it while it is made: the entries that no step has hold `noStep`.

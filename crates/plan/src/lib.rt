@@ -65,40 +65,42 @@ impl Plan {
 }
 
 // A step whose record is whole, where `count` steps stand before it.
-fn listed_at(s: &[u8], at: usize, count: usize, away: bool) -> RecordRead
-    requires { ⌜ at + 2 ≤ length (now s) ⌝ }
-    ensures { λ r. ⌜ r ≡ listedAt (now (s .entry)) at count away ⌝ }
+fn listed_at(s: &[u8], p: Place, next: Place, count: usize, away: bool) -> RecordRead
+    requires { ⌜ p .at + 1 < length (now s) ⌝ }
+    ensures { λ r. ⌜ r ≡ listedAt (now (s .entry)) p next count away ⌝ }
 {
     if Table::MOST_JOBS <= count {
-        return RecordRead::RecordRefused(Refusal::Many(Place { at }));
+        return RecordRead::RecordRefused(Refusal::Many(p));
     }
     let step = Step {
-        id: s[at + 1],
+        id: s[p.at + 1],
         away,
     };
-    RecordRead::RecordIs(Record::Listed(step, Place { at: at + 2 }))
+    RecordRead::RecordIs(Record::Listed(step, next))
 }
 
 // The record at a place, where `count` steps stand before it.
-fn record_at(s: &[u8], at: usize, count: usize) -> RecordRead
-    ensures { λ r. ⌜ r ≡ recordAt (now (s .entry)) at count ⌝ }
+fn record_at(s: &[u8], p: Place, count: usize) -> RecordRead
+    ensures { λ r. ⌜ r ≡ recordAt (now (s .entry)) p count ⌝ }
 {
+    let at = p.at;
     if s.len() <= at {
-        return RecordRead::RecordRefused(Refusal::Short(Place { at }));
+        return RecordRead::RecordRefused(Refusal::Short(p));
     }
     let form = kind::form_of(s[at]);
     let meaning = form.meaning;
     let body = form.body;
     let Meaning::Step(k) = meaning else {
-        return RecordRead::RecordRefused(Refusal::Kind(Place { at }));
+        return RecordRead::RecordRefused(Refusal::Kind(p));
     };
     if s.len() - (at + 1) < body {
-        return RecordRead::RecordRefused(Refusal::Short(Place { at }));
+        return RecordRead::RecordRefused(Refusal::Short(p));
     }
+    let next = p.past(body);
     match k {
-        StepKind::HereStep => listed_at(s, at, count, false),
-        StepKind::AwayStep => listed_at(s, at, count, true),
-        StepKind::EndStep => RecordRead::RecordIs(Record::Last(Place { at: at + 1 })),
+        StepKind::HereStep => listed_at(s, p, next, count, false),
+        StepKind::AwayStep => listed_at(s, p, next, count, true),
+        StepKind::EndStep => RecordRead::RecordIs(Record::Last(next)),
     }
 }
 
@@ -113,13 +115,13 @@ fn refusal_of(answer: RecordRead) -> Refusal
 }
 
 // Nothing may stand after the end record.
-fn ended_at(s: &[u8], count: usize, at: usize) -> PlanRead
-    ensures { λ r. ⌜ r ≡ endedAt (now (s .entry)) count at ⌝ }
+fn ended_at(s: &[u8], count: usize, p: Place) -> PlanRead
+    ensures { λ r. ⌜ r ≡ endedAt (now (s .entry)) count p ⌝ }
 {
-    if s.len() <= at {
+    if s.len() <= p.at {
         PlanRead::PlanIs(count)
     } else {
-        PlanRead::PlanRefused(Refusal::After(Place { at }))
+        PlanRead::PlanRefused(Refusal::After(p))
     }
 }
 
@@ -129,9 +131,9 @@ pub fn read_plan(s: &[u8]) -> PlanRead
 {
     let mut seen = [false; 256];
     let mut count = 0;
-    let mut at = 0;
+    let mut p = Place::start();
     loop {
-        let answer = record_at(s, at, count);
+        let answer = record_at(s, p, count);
         let RecordRead::RecordIs(record) = answer else {
             return PlanRead::PlanRefused(refusal_of(answer));
         };
@@ -139,13 +141,13 @@ pub fn read_plan(s: &[u8]) -> PlanRead
             Record::Listed(step, next) => {
                 let id = step.id as usize;
                 if seen[id] {
-                    return PlanRead::PlanRefused(Refusal::Twice(Place { at }));
+                    return PlanRead::PlanRefused(Refusal::Twice(p));
                 }
                 seen[id] = true;
                 count += 1;
-                at = next.at;
+                p = next;
             }
-            Record::Last(next) => return ended_at(s, count, next.at),
+            Record::Last(next) => return ended_at(s, count, next),
         }
     }
 }
@@ -159,7 +161,7 @@ pub fn step_at(s: &[u8], k: usize) -> Step
     }
     Step {
         id: s[2 * k + 1],
-        away: s[2 * k] == 0x21,
+        away: s[2 * k] == kind::SEND_AWAY,
     }
 }
 
@@ -168,7 +170,11 @@ fn put_step(area: &mut [u8], at: usize, step: Step) -> usize
     requires { ⌜ at + 2 ≤ length (now area) ⌝ }
     ensures { λ r. ⌜ Wrote (now (area .entry)) at (stepBytes step) (now (area .exit)) r ⌝ }
 {
-    let kind = if step.away { 0x21 } else { 0x20 };
+    let kind = if step.away {
+        kind::SEND_AWAY
+    } else {
+        kind::RUN_HERE
+    };
     let record = [kind, step.id];
     bytes::put(area, at, &record)
 }
@@ -185,5 +191,6 @@ pub fn write_plan(area: &mut [u8], plan: Plan) -> usize
         at = put_step(area, at, plan.steps[i]);
         i += 1;
     }
-    bytes::put(area, at, b"\x2F")
+    let end = [kind::PLAN_END];
+    bytes::put(area, at, &end)
 }

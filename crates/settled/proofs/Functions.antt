@@ -63,6 +63,12 @@ longest-plan κs i r s m n p q = (p ∙ sym q, refl)
 pub form-of : Settles table.kind.form_of.ended table.kind.form_of.Reads.Learnt
 form-of κs i r s m n p q = (p ∙ sym q, refl)
 
+pub place-start : Settles table.refusal.Place.start.ended table.refusal.Place.start.Reads.Learnt
+place-start κs i r s m n p q = (p ∙ sym q, refl)
+
+pub place-past : Settles table.refusal.Place.past.ended table.refusal.Place.past.Reads.Learnt
+place-past κs i r s m n p q = (p ∙ sym q, refl)
+
 pub numbers-of : Settles table.refusal.numbers_of.ended table.refusal.numbers_of.Reads.Learnt
 numbers-of κs i r s m n p q = (p ∙ sym q, refl)
 

@@ -17,11 +17,12 @@ use Rattle.table.specs.declared.Table.{Table}
 use Rattle.table.specs.declared.kind.Form.{Form}
 use Rattle.table.specs.declared.kind.Meaning.the-variants.{Row, Unknown}
 use Rattle.table.specs.declared.kind.RowKind.the-variants.{HereRow}
+use Rattle.table.specs.declared.refusal.Place.{Place}
 use Rattle.table.specs.declared.refusal.Refusal.the-variants.{Twice, Late, Phase}
 use Rattle.table.specs.declared.refusal.Said.{Said}
 use Rattle.table.specs.Limits.{mostJobs}
 use Rattle.table.specs.Records.{form, formOf}
-use Rattle.table.specs.Refusals.{place}
+use Rattle.table.specs.Refusals.{start, past}
 use Rattle.table.specs.Tables.{emptyTable}
 use Rattle.table.proofs as table
 use Rattle.plan.specs.declared.Plan.{Plan}
@@ -111,13 +112,32 @@ form-of = (
   (λ m e. clash (cc (ap (λ (f : Form). f .meaning) e))),
 )
 
+-- the second byte of a file, the fourth; the next record one byte short, or where this one is
+abbrev StartNot : Place → Type 0
+StartNot p = RulesOut table.refusal.Place.start.ended table.refusal.Place.start.Reads.Learnt tt tt p
+
+pub place-start : StartNot (past start 0) × StartNot (past start 2)
+place-start = (
+  (λ m e. let z : _≡_ {A = ℕ} 1 0 = ap (λ (p : Place). p .at) e in omega arith),
+  (λ m e. let z : _≡_ {A = ℕ} 3 0 = ap (λ (p : Place). p .at) e in omega arith),
+)
+
+abbrev PastNot : Place → Type 0
+PastNot p = RulesOut table.refusal.Place.past.ended table.refusal.Place.past.Reads.Learnt tt (start, (2, tt)) p
+
+pub place-past : PastNot (past start 1) × PastNot start
+place-past = (
+  (λ m e. let z : _≡_ {A = ℕ} 2 3 = ap (λ (p : Place). p .at) e in omega arith),
+  (λ m e. let z : _≡_ {A = ℕ} 0 3 = ap (λ (p : Place). p .at) e in omega arith),
+)
+
 -- the number of another refusal; a place left out
 abbrev said : ℕ → Said
 said n = record { number = n; placed = false; place = 0 }
 
 pub numbers-of :
     RulesOut table.refusal.numbers_of.ended table.refusal.numbers_of.Reads.Learnt tt (Late, tt) (said 12)
-    × RulesOut table.refusal.numbers_of.ended table.refusal.numbers_of.Reads.Learnt tt (Twice (place 7), tt) (said 5)
+    × RulesOut table.refusal.numbers_of.ended table.refusal.numbers_of.Reads.Learnt tt (Twice (past start 6), tt) (said 5)
 numbers-of = (
   (λ m e. let z : _≡_ {A = ℕ} 12 11 = ap (λ (s : Said). s .number) e in omega arith),
   (λ m e. let z : _≡_ {A = ℕ} 0 7 = ap (λ (s : Said). s .place) e in omega arith),

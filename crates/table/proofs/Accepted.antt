@@ -4,28 +4,27 @@ use Prim.Native.Nat.{ℕ, suc, _≤_, _-_}
 use native.Mathlib.Omega.{arith}
 use mathlib.Core.Path.{_≡_, refl}
 use mathlib.Core.List.{List, [], _∷_}
-use lib.ListN.{length, getD, replicate}
+use lib.ListN.{length, replicate}
 use lib.Seq.{take-at}
 use Rattle.model.specs.declared.Job.{Job}
 use Rattle.model.specs.Lists.{All}
 use Rattle.model.specs.Positions.{noJob}
 use Rattle.model.proofs.Lists.{clash, all-append}
+use Rattle.table.specs.declared.refusal.Place.{Place}
 use Rattle.table.specs.declared.FrameRead.{FrameRead}
 use Rattle.table.specs.Limits.{mostJobs, largestTime}
-use Rattle.table.specs.Refusals.{Outcome, accepted, refused}
-use Rattle.table.specs.Records.{wordAt, one}
+use Rattle.table.specs.Refusals.{start, past, Outcome, accepted, refused}
+use Rattle.table.specs.Records.{one}
 use Rattle.table.specs.Tables.{JobTable, TimesOk, GoodTable, jobId, jobsRead, withDeadline, afterFrame, readTable, Sound, jobTable, tableOf}
 use Rattle.table.proofs.Listed.{listed-all, listed-good}
 use Rattle.table.proofs.Tables.{frame-all, rowEntry, RowIs, row-here, row-either, row-is, row-few}
 
--- what an accepted byte string tells of its table: the frame record is whole and its deadline in range, and the jobs are accepted
+-- what an accepted byte string tells of its table: the deadline is in range, and the jobs behind the frame record are accepted
 pub record Read (s : List ℕ) (t : JobTable) : Type 0 where
-  pub kind : getD s 0 0 ≡ 0x10
-  pub whole : 3 ≤ length s
-  pub deadline : t .deadline ≡ wordAt s 1
   pub low : 1 ≤ t .deadline
   pub high : t .deadline ≤ largestTime
-  pub jobs : jobsRead s ≡ accepted (t .jobs)
+  pub first : Place
+  pub jobs : jobsRead s first ≡ accepted (t .jobs)
 
 -- a table is accepted only with its jobs
 with-deadline : (D : ℕ) (o : Outcome (List Job)) (t : JobTable) → withDeadline D o ≡ accepted t → (t .deadline ≡ D) × (o ≡ accepted (t .jobs))
@@ -35,15 +34,15 @@ with-deadline D (refused f) t e = clash (cc)
 pub accepted-read : (s : List ℕ) (t : JobTable) → readTable s ≡ accepted t → Read s t
 unfolding readTable
 accepted-read s t e =
-    frame-all s (λ (a : FrameRead). afterFrame s a ≡ accepted t → Read s t)
+    frame-all s start (λ (a : FrameRead). afterFrame s a ≡ accepted t → Read s t)
     (λ f x. clash (cc))
     (λ kind whole low high x.
-    let r = with-deadline (wordAt s 1) (jobsRead s) t x in
-    record { kind = kind; whole = whole; deadline = r .0; low = rw (r .0) low; high = rw (r .0) high; jobs = r .1 })
+    let r = with-deadline _ _ t x in
+    record { low = rw (r .0) low; high = rw (r .0) high; first = past start 2; jobs = r .1 })
     e
 
 -- a job that is read has times in range
-row-times : {s : List ℕ} {at n : ℕ} {j : Job} {p : ℕ} → RowIs s at n (one j p) → TimesOk j
+row-times : {s : List ℕ} {p : Place} {n : ℕ} {j : Job} {next : Place} → RowIs s p n (one j next) → TimesOk largestTime j
 row-times (row-here b h few t) = record { local = t; setup = omega arith; back = omega arith }
 row-times (row-either b h few t u v) = record { local = t; setup = u; back = v }
 
@@ -51,12 +50,12 @@ pub accepted-good : (s : List ℕ) (t : JobTable) → readTable s ≡ accepted t
 unfolding jobsRead
 accepted-good s t e =
     let r = accepted-read s t e in
-    let g = listed-good jobId (rowEntry s) (length s) (λ at n j p x. row-few (row-is s at n x)) 3 (t .jobs) (r .jobs) in
+    let g = listed-good jobId (rowEntry s) (length s) (λ p n j next x. row-few (row-is s p n x)) (r .first) (t .jobs) (r .jobs) in
     let times =
-    listed-all jobId (rowEntry s) (length s) (λ (js : List Job) (at : ℕ). All TimesOk js) (All TimesOk)
-    (λ js at j p ok x new. all-append TimesOk js (j ∷ []) ok (row-times (row-is s at (length js) x), tt))
-    (λ js at p ok x end. ok)
-    (suc mostJobs) [] 3 tt (t .jobs) (r .jobs) in
+    listed-all jobId (rowEntry s) (length s) (λ (js : List Job) (p : Place). All (TimesOk largestTime) js) (All (TimesOk largestTime))
+    (λ js p j next ok x new. all-append (TimesOk largestTime) js (j ∷ []) ok (row-times (row-is s p (length js) x), tt))
+    (λ js p next ok x end. ok)
+    (suc mostJobs) [] (r .first) tt (t .jobs) (r .jobs) in
     record { few = g .0; distinct = g .1; times = times; low = r .low; high = r .high }
 
 -- what the code holds of it reads as the same table, and is sound

@@ -7,15 +7,15 @@ use mathlib.Core.List.{List, [], _∷_, _++_, map, flatMap, List·Memᴰ, List·
 use lib.ListN.{length, getD, set, drop, replicate, length-append, length-set, length-replicate, length-drop, getD-replicate, drop-of-length-le}
 use lib.Seq.{append-snoc, set-append-seam, getD-set-same, getD-set-other, drop-drop, drop-at}
 use lib.Dec.{leb, eqb}
-use native.Mathlib.Nat.{add-zero}
 use native.Mathlib.Omega.{arith}
 use borrow.Author.Tests.{leb-true, le-leb, eqb-true, eqb-false, eq-eqb, ne-eqb}
 use Rattle.model.specs.Lists.{All, Pairwise}
 use Rattle.model.proofs.Lists.{clash, pairwise-append, all-map}
+use Rattle.table.specs.declared.refusal.Place.{Place}
 use Rattle.table.specs.declared.refusal.Refusal.{Refusal}
 use Rattle.table.specs.declared.refusal.Refusal.the-variants.{Twice, After}
 use Rattle.table.specs.Limits.{mostJobs}
-use Rattle.table.specs.Refusals.{place, Outcome, accepted, refused}
+use Rattle.table.specs.Refusals.{past, Outcome, accepted, refused}
 use Rattle.table.specs.Records.{Entry, one, last, bad, used, follow, listFrom}
 
 -- one more id
@@ -101,50 +101,50 @@ module _ {A : Type 0} (idOf : A → ℕ) where
   differs-unused [] id h = refl
   differs-unused (x ∷ xs) id h = rw (ne-eqb (idOf x) id (h .0), differs-unused xs id (h .1))
 
-module _ {A : Type 0} (idOf : A → ℕ) (entryAt : ℕ → ℕ → Entry A) (size : ℕ) where
+module _ {A : Type 0} (idOf : A → ℕ) (entryAt : Place → ℕ → Entry A) (size : ℕ) where
   -- one record more
   pub list-step :
-      (xs : List A) (at : ℕ) → length xs ≤ mostJobs →
-      listFrom idOf entryAt size (suc mostJobs - length xs) xs at ≡
-      follow idOf entryAt size (listFrom idOf entryAt size (mostJobs - length xs)) xs at (entryAt at (length xs))
+      (xs : List A) (p : Place) → length xs ≤ mostJobs →
+      listFrom idOf entryAt size (suc mostJobs - length xs) xs p ≡
+      follow idOf entryAt size (listFrom idOf entryAt size (mostJobs - length xs)) xs p (entryAt p (length xs))
   unfolding listFrom
-  list-step xs at h =
+  list-step xs p h =
       let e : suc mostJobs - length xs ≡ suc (mostJobs - length xs) = omega arith in
       rw e
 
   -- What a reader's loop keeps: xs is what it has read so far, of which it holds the count and the ids,
-  -- and what is still to do, from `at` on, gives the same as the whole, from `start` on.
-  pub record SoFar (start : ℕ) (xs : List A) (count : ℕ) (seen : List Bool) (at : ℕ) : Type 0 where
+  -- and what is still to do, from `p` on, gives the same as the whole, from `first` on.
+  pub record SoFar (first : Place) (xs : List A) (count : ℕ) (seen : List Bool) (p : Place) : Type 0 where
     pub counted : count ≡ length xs
     pub few : length xs ≤ mostJobs
     pub ids : Seen (map idOf xs) seen
-    pub rest : listFrom idOf entryAt size (suc mostJobs - length xs) xs at ≡ listFrom idOf entryAt size (suc mostJobs) [] start
+    pub rest : listFrom idOf entryAt size (suc mostJobs - length xs) xs p ≡ listFrom idOf entryAt size (suc mostJobs) [] first
 
-  pub so-far-begin : (start : ℕ) → SoFar start [] 0 (replicate 256 false) start
-  so-far-begin start = record { counted = refl; few = omega arith; ids = seen-none; rest = refl }
+  pub so-far-begin : (first : Place) → SoFar first [] 0 (replicate 256 false) first
+  so-far-begin first = record { counted = refl; few = omega arith; ids = seen-none; rest = refl }
 
-  module _ {start : ℕ} {xs : List A} {count : ℕ} {seen : List Bool} {at : ℕ} (so : SoFar start xs count seen at) where
+  module _ {first : Place} {xs : List A} {count : ℕ} {seen : List Bool} {p : Place} (so : SoFar first xs count seen p) where
     -- the record at the place, and what it leads to
     leads :
-        {a : Entry A} → entryAt at count ≡ a →
-        follow idOf entryAt size (listFrom idOf entryAt size (mostJobs - length xs)) xs at a ≡ listFrom idOf entryAt size (suc mostJobs) [] start
-    leads e = rw (← e, so .counted) (sym (list-step xs at (so .few)) ∙ so .rest)
+        {a : Entry A} → entryAt p count ≡ a →
+        follow idOf entryAt size (listFrom idOf entryAt size (mostJobs - length xs)) xs p a ≡ listFrom idOf entryAt size (suc mostJobs) [] first
+    leads e = rw (← e, so .counted) (sym (list-step xs p (so .few)) ∙ so .rest)
 
-    pub so-far-refused : {f : Refusal} → entryAt at count ≡ bad f → refused f ≡ listFrom idOf entryAt size (suc mostJobs) [] start
+    pub so-far-refused : {f : Refusal} → entryAt p count ≡ bad f → refused f ≡ listFrom idOf entryAt size (suc mostJobs) [] first
     so-far-refused e = leads e
 
     pub so-far-ended :
-        {p : ℕ} → entryAt at count ≡ last p →
-        cond (leb size p) (accepted xs) (refused (After (place p))) ≡ listFrom idOf entryAt size (suc mostJobs) [] start
+        {next : Place} → entryAt p count ≡ last next →
+        cond (leb size (next .at)) (accepted xs) (refused (After next)) ≡ listFrom idOf entryAt size (suc mostJobs) [] first
     so-far-ended e = leads e
 
-    module _ {x : A} {p : ℕ} (e : entryAt at count ≡ one x p) (byte : idOf x < 256) where
-      pub so-far-twice : getD seen (idOf x) false ≡ true → refused (Twice (place at)) ≡ listFrom idOf entryAt size (suc mostJobs) [] start
+    module _ {x : A} {next : Place} (e : entryAt p count ≡ one x next) (byte : idOf x < 256) where
+      pub so-far-twice : getD seen (idOf x) false ≡ true → refused (Twice p) ≡ listFrom idOf entryAt size (suc mostJobs) [] first
       so-far-twice h =
           let twice : used (map idOf xs) (idOf x) ≡ true = sym (so .ids .tells (idOf x) byte) ∙ h in
           simp twice at (leads e)
 
-      pub so-far-more : count < mostJobs → getD seen (idOf x) false ≡ false → SoFar start (xs ++ (x ∷ [])) (count + 1) (set seen (idOf x) true) p
+      pub so-far-more : count < mostJobs → getD seen (idOf x) false ≡ false → SoFar first (xs ++ (x ∷ [])) (count + 1) (set seen (idOf x) true) next
       so-far-more room h =
           let counted = so .counted in
           let once : used (map idOf xs) (idOf x) ≡ false = sym (so .ids .tells (idOf x) byte) ∙ h in
@@ -159,101 +159,118 @@ module _ {A : Type 0} (idOf : A → ℕ) (entryAt : ℕ → ℕ → Entry A) (si
 
   -- What holds of no record, of one more where it held before, and then of the end, holds of every accepted list.
   pub listed-all :
-      (I : List A → ℕ → Type 0) (Q : List A → Type 0) →
-      ((xs : List A) (at : ℕ) (x : A) (p : ℕ) → I xs at → entryAt at (length xs) ≡ one x p → used (map idOf xs) (idOf x) ≡ false → I (xs ++ (x ∷ [])) p) →
-      ((xs : List A) (at p : ℕ) → I xs at → entryAt at (length xs) ≡ last p → size ≤ p → Q xs) →
-      (left : ℕ) (before : List A) (at : ℕ) → I before at → (xs : List A) → listFrom idOf entryAt size left before at ≡ accepted xs → Q xs
+      (I : List A → Place → Type 0) (Q : List A → Type 0) →
+      ((xs : List A) (p : Place) (x : A) (next : Place) → I xs p → entryAt p (length xs) ≡ one x next → used (map idOf xs) (idOf x) ≡ false → I (xs ++ (x ∷ [])) next) →
+      ((xs : List A) (p next : Place) → I xs p → entryAt p (length xs) ≡ last next → size ≤ next .at → Q xs) →
+      (left : ℕ) (before : List A) (p : Place) → I before p → (xs : List A) → listFrom idOf entryAt size left before p ≡ accepted xs → Q xs
   unfolding listFrom
-  listed-all I Q more end zero before at i xs e = clash (cc)
-  listed-all I Q more end (suc left) before at i xs e = read (entryAt at (length before)) refl e (λ ys p j. listed-all I Q more end left ys p j xs)
+  listed-all I Q more end zero before p i xs e = clash (cc)
+  listed-all I Q more end (suc left) before p i xs e = read (entryAt p (length before)) refl e (λ ys next j. listed-all I Q more end left ys next j xs)
     where
       read :
-          (a : Entry A) → entryAt at (length before) ≡ a →
-          follow idOf entryAt size (listFrom idOf entryAt size left) before at a ≡ accepted xs →
-          ((ys : List A) (p : ℕ) → I ys p → listFrom idOf entryAt size left ys p ≡ accepted xs → Q xs) → Q xs
-      read (one x p) a e on = step (used (map idOf before) (idOf x)) refl e
+          (a : Entry A) → entryAt p (length before) ≡ a →
+          follow idOf entryAt size (listFrom idOf entryAt size left) before p a ≡ accepted xs →
+          ((ys : List A) (next : Place) → I ys next → listFrom idOf entryAt size left ys next ≡ accepted xs → Q xs) → Q xs
+      read (one x next) a e on = step (used (map idOf before) (idOf x)) refl e
         where
           step :
               (b : Bool) → used (map idOf before) (idOf x) ≡ b →
-              cond b (refused (Twice (place at))) (listFrom idOf entryAt size left (before ++ (x ∷ [])) p) ≡ accepted xs → Q xs
+              cond b (refused (Twice p)) (listFrom idOf entryAt size left (before ++ (x ∷ [])) next) ≡ accepted xs → Q xs
           step true u e = clash (cc)
-          step false u e = on (before ++ (x ∷ [])) p (more before at x p i a u) e
-      read (last p) a e on = step (leb size p) refl e
+          step false u e = on (before ++ (x ∷ [])) next (more before p x next i a u) e
+      read (last next) a e on = step (leb size (next .at)) refl e
         where
-          step : (b : Bool) → leb size p ≡ b → cond b (accepted before) (refused (After (place p))) ≡ accepted xs → Q xs
-          step true u e = subst Q (cc) (end before at p i a (leb-true _ _ u))
+          step : (b : Bool) → leb size (next .at) ≡ b → cond b (accepted before) (refused (After next)) ≡ accepted xs → Q xs
+          step true u e = subst Q (cc) (end before p next i a (leb-true _ _ u))
           step false u e = clash (cc)
       read (bad f) a e on = clash (cc)
 
   -- an accepted list has at most 32, with distinct ids
   pub listed-good :
-      ((at n : ℕ) (x : A) (p : ℕ) → entryAt at n ≡ one x p → n < mostJobs) →
-      (start : ℕ) (xs : List A) → listFrom idOf entryAt size (suc mostJobs) [] start ≡ accepted xs → (length xs ≤ mostJobs) × Distinct idOf xs
-  listed-good few start =
-      listed-all (λ (xs : List A) (at : ℕ). (length xs ≤ mostJobs) × Distinct idOf xs) (λ (xs : List A). (length xs ≤ mostJobs) × Distinct idOf xs)
-      (λ xs at x p i a u. (
-        omega (arith, few at (length xs) x p a, length-append xs (x ∷ [])),
+      ((p : Place) (n : ℕ) (x : A) (next : Place) → entryAt p n ≡ one x next → n < mostJobs) →
+      (first : Place) (xs : List A) → listFrom idOf entryAt size (suc mostJobs) [] first ≡ accepted xs → (length xs ≤ mostJobs) × Distinct idOf xs
+  listed-good few first =
+      listed-all (λ (xs : List A) (p : Place). (length xs ≤ mostJobs) × Distinct idOf xs) (λ (xs : List A). (length xs ≤ mostJobs) × Distinct idOf xs)
+      (λ xs p x next i a u. (
+        omega (arith, few p (length xs) x next a, length-append xs (x ∷ [])),
         pairwise-append _ xs (x ∷ []) (i .1) (tt, tt) (all-map (λ y d. (d, tt)) xs (unused-differs idOf xs (idOf x) u)),
       ))
-      (λ xs at p i a h. i)
-      (suc mostJobs) [] start (omega arith, tt)
+      (λ xs p next i a h. i)
+      (suc mostJobs) [] first (omega arith, tt)
+
+-- From place to place: past a record of these bytes, and past all of them.
+abbrev pub over : Place → List ℕ → Place
+over p bytes = past p (length bytes - 1)
+
+unfoldable pub overAll : Place → List (List ℕ) → Place
+overAll p [] = p
+overAll p (r ∷ rs) = overAll (over p r) rs
+
+-- what stands behind them
+pub over-drop : (s : List ℕ) (p : Place) (r rest : List ℕ) → 1 ≤ length r → drop (p .at) s ≡ r ++ rest → drop (over p r .at) s ≡ rest
+over-drop s p r rest any e =
+    let next : p .at + 1 + (length r - 1) ≡ p .at + length r = omega arith in
+    rw next (sym (drop-drop (length r) (p .at) s) ∙ (ap (drop (length r)) e ∙ drop-at r rest (length r) refl))
+
+pub over-all-drop :
+    (s : List ℕ) {A : Type 0} (bytesOf : A → List ℕ) → ((x : A) → 1 ≤ length (bytesOf x)) →
+    (xs : List A) (p : Place) (rest : List ℕ) → drop (p .at) s ≡ flatMap bytesOf xs ++ rest → drop (overAll p (map bytesOf xs) .at) s ≡ rest
+unfolding flatMap overAll
+over-all-drop s bytesOf any [] p rest e = e
+over-all-drop s bytesOf any (x ∷ xs) p rest e =
+    over-all-drop s bytesOf any xs (over p (bytesOf x)) rest
+    (over-drop s p (bytesOf x) (flatMap bytesOf xs ++ rest) (any x) (e ∙ append-assoc (bytesOf x) (flatMap bytesOf xs) rest))
 
 -- The bytes of a list: of each that is listed, in order, and of the end record, where each kind of record tells its bytes.
-module _ {A : Type 0} (idOf : A → ℕ) (s : List ℕ) (entryAt : ℕ → ℕ → Entry A) (bytesOf : A → List ℕ) where
-  -- an accepted list stands in s, from `start` on, and nothing after it
+module _ {A : Type 0} (idOf : A → ℕ) (s : List ℕ) (entryAt : Place → ℕ → Entry A) (bytesOf : A → List ℕ) where
+  -- an accepted list stands in s, from `first` on, and nothing after it
   pub listed-bytes :
       (endBytes : List ℕ) →
-      ((at n : ℕ) (x : A) (p : ℕ) → entryAt at n ≡ one x p → drop at s ≡ bytesOf x ++ drop p s) →
-      ((at n p : ℕ) → entryAt at n ≡ last p → drop at s ≡ endBytes ++ drop p s) →
-      (start : ℕ) (xs : List A) → listFrom idOf entryAt (length s) (suc mostJobs) [] start ≡ accepted xs → drop start s ≡ flatMap bytesOf xs ++ endBytes
+      ((p : Place) (n : ℕ) (x : A) (next : Place) → entryAt p n ≡ one x next → drop (p .at) s ≡ bytesOf x ++ drop (next .at) s) →
+      ((p : Place) (n : ℕ) (next : Place) → entryAt p n ≡ last next → drop (p .at) s ≡ endBytes ++ drop (next .at) s) →
+      (first : Place) (xs : List A) → listFrom idOf entryAt (length s) (suc mostJobs) [] first ≡ accepted xs → drop (first .at) s ≡ flatMap bytesOf xs ++ endBytes
   unfolding flatMap
-  listed-bytes endBytes one-bytes end-bytes start =
+  listed-bytes endBytes one-bytes end-bytes first =
       listed-all idOf entryAt (length s)
-      (λ (xs : List A) (at : ℕ). drop start s ≡ flatMap bytesOf xs ++ drop at s) (λ (xs : List A). drop start s ≡ flatMap bytesOf xs ++ endBytes)
-      (λ xs at x p i a u. i ∙ (ap (λ (l : List ℕ). flatMap bytesOf xs ++ l) (one-bytes at (length xs) x p a) ∙ sym (flat-more bytesOf xs x (drop p s))))
-      (λ xs at p i a h. i ∙ ap (λ (l : List ℕ). flatMap bytesOf xs ++ l)
-      (end-bytes at (length xs) p a ∙ rw (drop-of-length-le s {i = p} h) (append-nil endBytes)))
-      (suc mostJobs) [] start refl
+      (λ (xs : List A) (p : Place). drop (first .at) s ≡ flatMap bytesOf xs ++ drop (p .at) s) (λ (xs : List A). drop (first .at) s ≡ flatMap bytesOf xs ++ endBytes)
+      (λ xs p x next i a u. i ∙ (ap (λ (l : List ℕ). flatMap bytesOf xs ++ l) (one-bytes p (length xs) x next a) ∙ sym (flat-more bytesOf xs x (drop (next .at) s))))
+      (λ xs p next i a h. i ∙ ap (λ (l : List ℕ). flatMap bytesOf xs ++ l)
+      (end-bytes p (length xs) next a ∙ rw (drop-of-length-le s {i = next .at} h) (append-nil endBytes)))
+      (suc mostJobs) [] first refl
 
-  -- what is to be read from `at` on, where xs stands before
-  abbrev pub readOn : List A → ℕ → Outcome (List A)
-  readOn xs at = listFrom idOf entryAt (length s) (suc mostJobs - length xs) xs at
+  -- what is to be read from `p` on, where xs stands before
+  abbrev pub readOn : List A → Place → Outcome (List A)
+  readOn xs p = listFrom idOf entryAt (length s) (suc mostJobs - length xs) xs p
 
   module _
-      (Good : A → Type 0)
+      (Good : A → Type 0) (any : (x : A) → 1 ≤ length (bytesOf x))
       (reads :
-      (at n : ℕ) (x : A) (rest : List ℕ) → drop at s ≡ bytesOf x ++ rest → n < mostJobs → Good x → entryAt at n ≡ one x (at + length (bytesOf x))) where
+      (p : Place) (n : ℕ) (x : A) (rest : List ℕ) → drop (p .at) s ≡ bytesOf x ++ rest → n < mostJobs → Good x →
+      entryAt p n ≡ one x (over p (bytesOf x))) where
     -- the bytes of a good list are read as that list, whatever follows them
     pub good-read :
-        (ys xs : List A) (at : ℕ) (rest : List ℕ) → length xs + length ys ≤ mostJobs → Distinct idOf (xs ++ ys) → All Good ys →
-        drop at s ≡ flatMap bytesOf ys ++ rest → readOn xs at ≡ readOn (xs ++ ys) (at + length (flatMap bytesOf ys))
-    unfolding flatMap
-    good-read [] xs at rest few distinct good e = rw (append-nil, add-zero)
-    good-read (y ∷ ys) xs at rest few distinct good e =
-        let p = at + length (bytesOf y) in
+        (ys xs : List A) (p : Place) (rest : List ℕ) → length xs + length ys ≤ mostJobs → Distinct idOf (xs ++ ys) → All Good ys →
+        drop (p .at) s ≡ flatMap bytesOf ys ++ rest → readOn xs p ≡ readOn (xs ++ ys) (overAll p (map bytesOf ys))
+    unfolding flatMap overAll
+    good-read [] xs p rest few distinct good e = rw append-nil
+    good-read (y ∷ ys) xs p rest few distinct good e =
         let more : length (xs ++ (y ∷ [])) ≡ length xs + 1 = length-append xs (y ∷ []) in
         let left : mostJobs - length xs ≡ suc mostJobs - length (xs ++ (y ∷ [])) = omega arith in
         let once : used (map idOf xs) (idOf y) ≡ false = differs-unused idOf xs (idOf y) (pairwise-seam _ xs y ys distinct) in
-        let here : drop at s ≡ bytesOf y ++ (flatMap bytesOf ys ++ rest) = e ∙ append-assoc (bytesOf y) (flatMap bytesOf ys) rest in
-        let then : drop p s ≡ flatMap bytesOf ys ++ rest =
-        sym (drop-drop (length (bytesOf y)) at s) ∙
-        (ap (drop (length (bytesOf y))) here ∙ drop-at (bytesOf y) (flatMap bytesOf ys ++ rest) (length (bytesOf y)) refl) in
-        let at-end : p + length (flatMap bytesOf ys) ≡ at + length (bytesOf y ++ flatMap bytesOf ys) =
-        omega (arith, length-append (bytesOf y) (flatMap bytesOf ys)) in
-        list-step idOf entryAt (length s) xs at (omega arith) ∙
-        rw (reads at (length xs) y _ here (omega arith) (good .0), once, left)
-        (good-read ys (xs ++ (y ∷ [])) p rest (omega arith) (rw append-snoc distinct) (good .1) then ∙ rw (append-snoc, at-end))
+        let here : drop (p .at) s ≡ bytesOf y ++ (flatMap bytesOf ys ++ rest) = e ∙ append-assoc (bytesOf y) (flatMap bytesOf ys) rest in
+        list-step idOf entryAt (length s) xs p (omega arith) ∙
+        rw (reads p (length xs) y _ here (omega arith) (good .0), once, left)
+        (good-read ys (xs ++ (y ∷ [])) (over p (bytesOf y)) rest (omega arith) (rw append-snoc distinct) (good .1) (over-drop s p (bytesOf y) _ (any y) here) ∙
+        rw append-snoc)
 
     -- and with the end record behind them and nothing after it they are accepted
     pub listed-back :
-        (end : ℕ) → ((at n : ℕ) (more : List ℕ) → drop at s ≡ end ∷ more → entryAt at n ≡ last (at + 1)) →
-        (start : ℕ) (xs : List A) → length xs ≤ mostJobs → Distinct idOf xs → All Good xs →
-        drop start s ≡ flatMap bytesOf xs ++ (end ∷ []) → listFrom idOf entryAt (length s) (suc mostJobs) [] start ≡ accepted xs
-    listed-back end ends start xs few distinct good e =
-        let at = start + length (flatMap bytesOf xs) in
-        let there : drop at s ≡ end ∷ [] =
-        sym (drop-drop (length (flatMap bytesOf xs)) start s) ∙
-        (ap (drop (length (flatMap bytesOf xs))) e ∙ drop-at (flatMap bytesOf xs) (end ∷ []) (length (flatMap bytesOf xs)) refl) in
-        let size : length s - at ≡ 1 = sym (length-drop at s) ∙ ap length there in
-        good-read xs [] start (end ∷ []) (omega arith) distinct good e ∙
-        (list-step idOf entryAt (length s) xs at few ∙ rw (ends at (length xs) [] there, le-leb (length s) (at + 1) (omega arith)))
+        (end : ℕ) → ((p : Place) (n : ℕ) (more : List ℕ) → drop (p .at) s ≡ end ∷ more → entryAt p n ≡ last (past p 0)) →
+        (first : Place) (xs : List A) → length xs ≤ mostJobs → Distinct idOf xs → All Good xs →
+        drop (first .at) s ≡ flatMap bytesOf xs ++ (end ∷ []) → listFrom idOf entryAt (length s) (suc mostJobs) [] first ≡ accepted xs
+    listed-back end ends first xs few distinct good e =
+        let p = overAll first (map bytesOf xs) in
+        let there : drop (p .at) s ≡ end ∷ [] = over-all-drop s bytesOf any xs first _ e in
+        let size : length s - p .at ≡ 1 = sym (length-drop (p .at) s) ∙ ap length there in
+        good-read xs [] first (end ∷ []) (omega arith) distinct good e ∙
+        (list-step idOf entryAt (length s) xs p few ∙ rw (ends p (length xs) [] there, le-leb (length s) (past p 0 .at) (omega arith)))

@@ -8,6 +8,7 @@ use mathlib.Core.Option.{Option, none, some}
 use lib.ListN.{length, getD}
 use lib.Dec.{ltb, leb, eqb}
 use borrow.Author.Tests.{ltb-true, leb-true, eqb-true, lt-ltb, le-ltb, le-leb, lt-leb}
+use Rattle.table.specs.declared.refusal.Place.{Place}
 use Rattle.table.specs.declared.refusal.Refusal.{Refusal}
 use Rattle.table.specs.declared.refusal.Refusal.the-variants.{Short, Kind}
 use Rattle.table.specs.declared.kind.RowKind.{RowKind}
@@ -17,14 +18,15 @@ use Rattle.table.specs.declared.kind.StepKind.the-variants.{HereStep, Aw
 use Rattle.table.specs.declared.kind.Meaning.{Meaning}
 use Rattle.table.specs.declared.kind.Meaning.the-variants.{Frame, Row, Step, Unknown}
 use Rattle.table.specs.declared.kind.Form.{Form}
-use Rattle.table.specs.Refusals.{place}
+use Rattle.table.specs.Refusals.{past}
+use Rattle.table.specs.Kinds.{frameKind, hereKind, eitherKind, tableEnd, runHere, sendAway, planEnd}
 use Rattle.table.specs.Records.{form, formOf, frameOnly, rowOnly, stepOnly, allowed, judged}
 
 -- the kind byte and the body's length of each kind of row and of step
 abbrev pub rowByte : RowKind → ℕ
-rowByte HereRow = 0x11
-rowByte EitherRow = 0x12
-rowByte EndRow = 0x1F
+rowByte HereRow = hereKind
+rowByte EitherRow = eitherKind
+rowByte EndRow = tableEnd
 
 abbrev pub rowLength : RowKind → ℕ
 rowLength HereRow = 3
@@ -32,9 +34,9 @@ rowLength EitherRow = 7
 rowLength EndRow = 0
 
 abbrev pub stepByte : StepKind → ℕ
-stepByte HereStep = 0x20
-stepByte AwayStep = 0x21
-stepByte EndStep = 0x2F
+stepByte HereStep = runHere
+stepByte AwayStep = sendAway
+stepByte EndStep = planEnd
 
 abbrev pub stepLength : StepKind → ℕ
 stepLength HereStep = 1
@@ -49,20 +51,20 @@ cond-all P false f g = g refl
 -- what holds of each line of the table of kinds holds of every byte and its form
 pub form-all :
     (P : ℕ → Form → Type 0) →
-    P 0x10 (form Frame 2) →
+    P frameKind (form Frame 2) →
     ((k : RowKind) → P (rowByte k) (form (Row k) (rowLength k))) →
     ((k : StepKind) → P (stepByte k) (form (Step k) (stepLength k))) →
     ((b : ℕ) → P b (form Unknown 0)) →
     (b : ℕ) → P b (formOf b)
 unfolding formOf
 form-all P frame row step unknown b =
-    pick 0x10 frame
-    (pick 0x11 (row HereRow)
-    (pick 0x12 (row EitherRow)
-    (pick 0x1F (row EndRow)
-    (pick 0x20 (step HereStep)
-    (pick 0x21 (step AwayStep)
-    (pick 0x2F (step EndStep) (unknown b)))))))
+    pick frameKind frame
+    (pick hereKind (row HereRow)
+    (pick eitherKind (row EitherRow)
+    (pick tableEnd (row EndRow)
+    (pick runHere (step HereStep)
+    (pick sendAway (step AwayStep)
+    (pick planEnd (step EndStep) (unknown b)))))))
   where
     pick : (n : ℕ) {x y : Form} → P n x → P b y → P b (cond (eqb b n) x y)
     pick n {x} p q = cond-all (P b) (eqb b n) (λ e. subst (λ (m : ℕ). P m x) (sym (eqb-true b n e)) p) (λ e. q)
@@ -74,14 +76,14 @@ row-form HereRow = refl
 row-form EitherRow = refl
 row-form EndRow = refl
 
-pub frame-form : formOf 0x10 ≡ form Frame 2
+pub frame-form : formOf frameKind ≡ form Frame 2
 unfolding formOf
 frame-form = refl
 
 -- a byte of a known meaning is that kind's byte, and its body has that kind's length
-pub frame-kind : (b : ℕ) → formOf b .meaning ≡ Frame → (b ≡ 0x10) × (formOf b .body ≡ 2)
+pub frame-kind : (b : ℕ) → formOf b .meaning ≡ Frame → (b ≡ frameKind) × (formOf b .body ≡ 2)
 frame-kind b =
-    form-all (λ (n : ℕ) (f : Form). f .meaning ≡ Frame → (n ≡ 0x10) × (f .body ≡ 2))
+    form-all (λ (n : ℕ) (f : Form). f .meaning ≡ Frame → (n ≡ frameKind) × (f .body ≡ 2))
     (λ e. (refl, refl)) (λ k e. (cc, cc)) (λ k e. (cc, cc)) (λ n e. (cc, cc)) b
 
 pub row-kind : (b : ℕ) (k : RowKind) → formOf b .meaning ≡ Row k → (b ≡ rowByte k) × (formOf b .body ≡ rowLength k)
@@ -131,42 +133,44 @@ not-step (Row k) differs = refl
 not-step (Step k) differs = absurd (differs k refl)
 not-step Unknown differs = refl
 
--- The laws of `judged`, one for each of its answers. `form` is the form of the byte at the place, as `form_of` gives it.
-module _ {K R : Type 0} (refuse : Refusal → R) (read : K → R) (may : Meaning → Option K) (s : List ℕ) (at : ℕ) where
-  pub no-byte : length s ≤ at → judged refuse read may s at ≡ refuse (Short (place at))
+-- The laws of `judged`, one for each of its answers. `f` is the form of the byte at the place, as `form_of` gives it.
+module _ {K R : Type 0} (refuse : Refusal → R) (read : Place → K → R) (may : Meaning → Option K) (s : List ℕ) (p : Place) where
+  pub no-byte : length s ≤ p .at → judged refuse read may s p ≡ refuse (Short p)
   unfolding judged
   no-byte h = simp (le-ltb _ _ h)
 
-  pub not-allowed : {f : Form} → f ≡ formOf (getD s at 0) → at < length s → may (f .meaning) ≡ none → judged refuse read may s at ≡ refuse (Kind (place at))
+  pub not-allowed :
+      {f : Form} → f ≡ formOf (getD s (p .at) 0) → p .at < length s → may (f .meaning) ≡ none → judged refuse read may s p ≡ refuse (Kind p)
   unfolding judged
   not-allowed told there e = simp (lt-ltb _ _ there, ← told, e)
 
   pub cut :
-      {f : Form} → f ≡ formOf (getD s at 0) → at < length s → (k : K) → may (f .meaning) ≡ some k →
-      length s - (at + 1) < f .body → judged refuse read may s at ≡ refuse (Short (place at))
+      {f : Form} → f ≡ formOf (getD s (p .at) 0) → p .at < length s → (k : K) → may (f .meaning) ≡ some k →
+      length s - (p .at + 1) < f .body → judged refuse read may s p ≡ refuse (Short p)
   unfolding judged
   cut told there k e h = simp (lt-ltb _ _ there, ← told, e, lt-leb _ _ h)
 
   pub opened :
-      {f : Form} → f ≡ formOf (getD s at 0) → at < length s → (k : K) → may (f .meaning) ≡ some k →
-      f .body ≤ length s - (at + 1) → judged refuse read may s at ≡ read k
+      {f : Form} → f ≡ formOf (getD s (p .at) 0) → p .at < length s → (k : K) → may (f .meaning) ≡ some k →
+      f .body ≤ length s - (p .at + 1) → judged refuse read may s p ≡ read (past p (f .body)) k
   unfolding judged
   opened told there k e h = simp (lt-ltb _ _ there, ← told, e, le-leb _ _ h)
 
   -- And back: what holds of every refusal, and of what each open record reads, holds of what is judged.
   pub judged-all :
       (P : R → Type 0) → ((f : Refusal) → P (refuse f)) →
-      ((k : K) → at < length s → may (formOf (getD s at 0) .meaning) ≡ some k → formOf (getD s at 0) .body ≤ length s - (at + 1) → P (read k)) →
-      P (judged refuse read may s at)
+      ((k : K) → p .at < length s → may (formOf (getD s (p .at) 0) .meaning) ≡ some k → formOf (getD s (p .at) 0) .body ≤ length s - (p .at + 1) →
+      P (read (past p (formOf (getD s (p .at) 0) .body)) k)) →
+      P (judged refuse read may s p)
   unfolding judged
   judged-all P out opens =
-      cond-all P (ltb at (length s))
-      (λ e. meant (ltb-true _ _ e) (may (formOf (getD s at 0) .meaning)) refl)
-      (λ e. out (Short (place at)))
+      cond-all P (ltb (p .at) (length s))
+      (λ e. meant (ltb-true _ _ e) (may (formOf (getD s (p .at) 0) .meaning)) refl)
+      (λ e. out (Short p))
     where
       meant :
-          at < length s → (o : Option K) → may (formOf (getD s at 0) .meaning) ≡ o →
-          P (allowed refuse read at (leb (formOf (getD s at 0) .body) (length s - (at + 1))) o)
-      meant there none m = out (Kind (place at))
+          let f = formOf (getD s (p .at) 0) in
+          p .at < length s → (o : Option K) → may (f .meaning) ≡ o → P (allowed refuse read p (f .body) (leb (f .body) (length s - (p .at + 1))) o)
+      meant there none m = out (Kind p)
       meant there (some k) m =
-          cond-all P (leb (formOf (getD s at 0) .body) (length s - (at + 1))) (λ e. opens k there m (leb-true _ _ e)) (λ e. out (Short (place at)))
+          cond-all P (leb (formOf (getD s (p .at) 0) .body) (length s - (p .at + 1))) (λ e. opens k there m (leb-true _ _ e)) (λ e. out (Short p))

@@ -9,7 +9,7 @@ use Rattle.table.specs.declared.refusal.Place.{Place}
 use Rattle.table.specs.declared.refusal.Refusal.{Refusal}
 use Rattle.table.specs.declared.refusal.Refusal.the-variants.{Short, Kind, Range, Many, Twice, After, None, Stranger, Kept, Left, Late, Phase, Number}
 use Rattle.table.specs.declared.refusal.Refusal.the-variants.{Clock, Who, Value, Early, Room}
-use Rattle.table.specs.Refusals.{place, refusalSays}
+use Rattle.table.specs.Refusals.{refusalSays}
 
 -- the refusals in the order of their numbers, from 1
 inOrder : Place → List Refusal
@@ -18,7 +18,7 @@ inOrder p =
 
 -- the refusal of a number and a place; there is no number 0
 named : List ℕ → Refusal
-named says = getD (None ∷ inOrder (place (getD says 1 0))) (getD says 0 0) None
+named says = getD (None ∷ inOrder (record { at = getD says 1 0 })) (getD says 0 0) None
 
 named-says : (f : Refusal) → named (refusalSays f) ≡ f
 unfolding named inOrder

@@ -11,19 +11,21 @@ use borrow.Author.Tests.{ltb-true, leb-true}
 use Rattle.model.specs.declared.Job.{Job}
 use Rattle.model.specs.Positions.{noJob}
 use Rattle.model.proofs.Lists.{clash}
+use Rattle.table.specs.declared.refusal.Place.{Place}
 use Rattle.table.specs.declared.refusal.Refusal.{Refusal}
 use Rattle.table.specs.declared.refusal.Refusal.the-variants.{After}
 use Rattle.table.specs.declared.kind.RowKind.{RowKind}
 use Rattle.table.specs.declared.kind.RowKind.the-variants.{HereRow, EitherRow, EndRow}
 use Rattle.table.specs.declared.Table.{Table}
 use Rattle.table.specs.declared.FrameRead.{FrameRead}
-use Rattle.table.specs.declared.FrameRead.the-variants.{Deadline, FrameRefused}
+use Rattle.table.specs.declared.FrameRead.the-variants.{FrameIs, FrameRefused}
 use Rattle.table.specs.declared.JobRead.{JobRead}
 use Rattle.table.specs.declared.JobRead.the-variants.{JobRefused}
 use Rattle.table.specs.declared.TableVerdict.{TableVerdict}
 use Rattle.table.specs.declared.TableVerdict.the-variants.{Whole, Refused}
 use Rattle.table.specs.Limits.{mostJobs, largestTime}
-use Rattle.table.specs.Refusals.{place, Outcome, accepted, refused}
+use Rattle.table.specs.Refusals.{past, Outcome, accepted, refused}
+use Rattle.table.specs.Kinds.{frameKind, hereKind, eitherKind, tableEnd}
 use Rattle.table.specs.Records.{wordAt, frameOnly, rowOnly, Entry, one, last, bad}
 use Rattle.table.specs.Tables.{timeOk, deadlineAt, frameAt, hereAt, eitherAt, rowBody, jobAt, jobEntry, withDeadline, tableOf, tableRead, emptyTable}
 use Rattle.table.specs.Tables.{endVerdict, isWhole}
@@ -36,66 +38,71 @@ both false b e = (cc, cc)
 
 -- what holds of every refusal and of a whole frame record holds of the first record
 pub frame-all :
-    (s : List ℕ) (P : FrameRead → Type 0) → ((f : Refusal) → P (FrameRefused f)) →
-    (getD s 0 0 ≡ 0x10 → 3 ≤ length s → 1 ≤ wordAt s 1 → wordAt s 1 ≤ largestTime → P (Deadline (wordAt s 1))) →
-    P (frameAt s)
+    (s : List ℕ) (p : Place) (P : FrameRead → Type 0) → ((f : Refusal) → P (FrameRefused f)) →
+    (getD s (p .at) 0 ≡ frameKind → past p 2 .at ≤ length s → 1 ≤ wordAt s (p .at + 1) → wordAt s (p .at + 1) ≤ largestTime →
+    P (FrameIs (wordAt s (p .at + 1)) (past p 2))) →
+    P (frameAt s p)
 unfolding frameAt
-frame-all s P out frame =
-    judged-all FrameRefused (λ (u : Unit {0}). deadlineAt s) frameOnly s 0 P out
+frame-all s p P out frame =
+    let D = wordAt s (p .at + 1) in
+    judged-all FrameRefused (λ (next : Place) (u : Unit {0}). deadlineAt s p next) frameOnly s p P out
     (λ u there may fits.
-    let f = frame-kind (getD s 0 0) (is-frame _ u may) in
-    cond-all P (ltb 0 (wordAt s 1) && timeOk (wordAt s 1))
+    let f = frame-kind (getD s (p .at) 0) (is-frame _ u may) in
+    rw (f .1)
+    (cond-all P (ltb 0 D && timeOk D)
     (λ e.
     let t = both _ _ e in
     frame (f .0) (omega (arith, f .1)) (ltb-true _ _ (t .0)) (leb-true _ _ (t .1)))
-    (λ e. out _))
+    (λ e. out _)))
 
 -- the reading of one record after the first
-abbrev pub rowEntry : List ℕ → ℕ → ℕ → Entry Job
-rowEntry s at n = jobEntry (jobAt s at n)
+abbrev pub rowEntry : List ℕ → Place → ℕ → Entry Job
+rowEntry s p n = jobEntry (jobAt s p n)
 
 -- What it comes to, and what that tells: a job is whole, with its times in range, and there is room for it beside the n before.
-pub data RowIs (s : List ℕ) (at n : ℕ) : Entry Job → Type 0 where
+pub data RowIs (s : List ℕ) (p : Place) (n : ℕ) : Entry Job → Type 0 where
   row-here :
-      getD s at 0 ≡ 0x11 → at + 4 ≤ length s → n < mostJobs → wordAt s (at + 2) ≤ largestTime → RowIs s at n (one (hereAt s at) (at + 4))
+      getD s (p .at) 0 ≡ hereKind → past p 3 .at ≤ length s → n < mostJobs →
+      wordAt s (p .at + 2) ≤ largestTime → RowIs s p n (one (hereAt s p) (past p 3))
   row-either :
-      getD s at 0 ≡ 0x12 → at + 8 ≤ length s → n < mostJobs →
-      wordAt s (at + 2) ≤ largestTime → wordAt s (at + 4) ≤ largestTime → wordAt s (at + 6) ≤ largestTime → RowIs s at n (one (eitherAt s at) (at + 8))
-  row-end : getD s at 0 ≡ 0x1F → at + 1 ≤ length s → RowIs s at n (last (at + 1))
-  row-out : (f : Refusal) → RowIs s at n (bad f)
+      getD s (p .at) 0 ≡ eitherKind → past p 7 .at ≤ length s → n < mostJobs →
+      wordAt s (p .at + 2) ≤ largestTime → wordAt s (p .at + 4) ≤ largestTime → wordAt s (p .at + 6) ≤ largestTime →
+      RowIs s p n (one (eitherAt s p) (past p 7))
+  row-end : getD s (p .at) 0 ≡ tableEnd → past p 0 .at ≤ length s → RowIs s p n (last (past p 0))
+  row-out : (f : Refusal) → RowIs s p n (bad f)
 
-module _ (s : List ℕ) (at n : ℕ) where
+module _ (s : List ℕ) (p : Place) (n : ℕ) where
   abbrev Tells : JobRead → Type 0
-  Tells a = RowIs s at n (jobEntry a)
+  Tells a = RowIs s p n (jobEntry a)
 
-  body-tells : (k : RowKind) → getD s at 0 ≡ rowByte k → at + 1 + rowLength k ≤ length s → Tells (rowBody s at n k)
+  body-tells : (k : RowKind) → getD s (p .at) 0 ≡ rowByte k → past p (rowLength k) .at ≤ length s → Tells (rowBody s p n (past p (rowLength k)) k)
   body-tells HereRow b h =
       cond-all Tells (ltb n mostJobs)
-      (λ few. cond-all Tells (timeOk (wordAt s (at + 2))) (λ t. row-here b (omega arith) (ltb-true _ _ few) (leb-true _ _ t)) (λ o. row-out _))
+      (λ few. cond-all Tells (timeOk (wordAt s (p .at + 2))) (λ t. row-here b h (ltb-true _ _ few) (leb-true _ _ t)) (λ o. row-out _))
       (λ o. row-out _)
   body-tells EitherRow b h =
       cond-all Tells (ltb n mostJobs)
       (λ few.
-      cond-all Tells (timeOk (wordAt s (at + 2)) && (timeOk (wordAt s (at + 4)) && timeOk (wordAt s (at + 6))))
+      cond-all Tells (timeOk (wordAt s (p .at + 2)) && (timeOk (wordAt s (p .at + 4)) && timeOk (wordAt s (p .at + 6))))
       (λ t.
       let l = both _ _ t in
       let m = both _ _ (l .1) in
-      row-either b (omega arith) (ltb-true _ _ few) (leb-true _ _ (l .0)) (leb-true _ _ (m .0)) (leb-true _ _ (m .1)))
+      row-either b h (ltb-true _ _ few) (leb-true _ _ (l .0)) (leb-true _ _ (m .0)) (leb-true _ _ (m .1)))
       (λ o. row-out _))
       (λ o. row-out _)
-  body-tells EndRow b h = row-end b (omega arith)
+  body-tells EndRow b h = row-end b h
 
-  pub row-is : {a : Entry Job} → rowEntry s at n ≡ a → RowIs s at n a
+  pub row-is : {a : Entry Job} → rowEntry s p n ≡ a → RowIs s p n a
   unfolding jobAt
   row-is e =
-      subst (RowIs s at n) e
-      (judged-all JobRefused (rowBody s at n) rowOnly s at Tells row-out
+      subst (RowIs s p n) e
+      (judged-all JobRefused (rowBody s p n) rowOnly s p Tells row-out
       (λ k there may fits.
-      let row = row-kind (getD s at 0) k (is-row _ k may) in
-      body-tells k (row .0) (omega (arith, row .1))))
+      let row = row-kind (getD s (p .at) 0) k (is-row _ k may) in
+      rw (row .1) (body-tells k (row .0) (omega (arith, row .1)))))
 
 -- a job is read only while there is room
-pub row-few : {s : List ℕ} {at n : ℕ} {j : Job} {p : ℕ} → RowIs s at n (one j p) → n < mostJobs
+pub row-few : {s : List ℕ} {p : Place} {n : ℕ} {j : Job} {next : Place} → RowIs s p n (one j next) → n < mostJobs
 row-few (row-here b h few t) = few
 row-few (row-either b h few t u v) = few
 
@@ -119,14 +126,14 @@ pub judged-refused : {o : Outcome (List Job)} {js : List Job} {v : TableVerdict}
 judged-refused f e r = record { told = e ∙ ap verdictOf r; read = λ w. clash (cc (ap isWhole e)) }
 
 pub judged-ended :
-    {o : Outcome (List Job)} {js : List Job} {v : TableVerdict} (s : List ℕ) (at : ℕ) → v ≡ endVerdict s at →
-    cond (leb (length s) at) (accepted js) (refused (After (place at))) ≡ o → Judged o js v
+    {o : Outcome (List Job)} {js : List Job} {v : TableVerdict} (s : List ℕ) (p : Place) → v ≡ endVerdict s p →
+    cond (leb (length s) (p .at)) (accepted js) (refused (After p)) ≡ o → Judged o js v
 unfolding endVerdict
-judged-ended {o} {js} {v} s at = step (leb (length s) at)
+judged-ended {o} {js} {v} s p = step (leb (length s) (p .at))
   where
-    step : (b : Bool) → v ≡ cond b Whole (Refused (After (place at))) → cond b (accepted js) (refused (After (place at))) ≡ o → Judged o js v
+    step : (b : Bool) → v ≡ cond b Whole (Refused (After p)) → cond b (accepted js) (refused (After p)) ≡ o → Judged o js v
     step true e r = record { told = e ∙ ap verdictOf r; read = λ w. sym r }
-    step false e r = judged-refused (After (place at)) e r
+    step false e r = judged-refused (After p) e r
 
 -- what is answered then: the table that was read, or the empty one
 pub answered-whole : (D : ℕ) (o : Outcome (List Job)) (js : List Job) (v : TableVerdict) (t : Table) → Judged o js v → isWhole v ≡ true → t ≡ tableOf D js

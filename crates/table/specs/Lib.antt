@@ -1,4 +1,5 @@
 pub mod Limits
 pub mod Refusals
+pub mod Kinds
 pub mod Records
 pub mod Tables

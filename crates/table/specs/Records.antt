@@ -6,6 +6,7 @@ use mathlib.Core.List.{List, [], _∷_, _++_, map}
 use mathlib.Core.Option.{Option, none, some}
 use lib.ListN.{length, getD}
 use lib.Dec.{ltb, leb, eqb}
+use Rattle.table.specs.declared.refusal.Place.{Place}
 use Rattle.table.specs.declared.refusal.Refusal.{Refusal}
 use Rattle.table.specs.declared.refusal.Refusal.the-variants.{Short, Kind, Many, Twice, After}
 use Rattle.table.specs.declared.kind.RowKind.{RowKind}
@@ -15,7 +16,8 @@ use Rattle.table.specs.declared.kind.StepKind.the-variants.{HereStep, Aw
 use Rattle.table.specs.declared.kind.Meaning.{Meaning}
 use Rattle.table.specs.declared.kind.Meaning.the-variants.{Frame, Row, Step, Unknown}
 use Rattle.table.specs.declared.kind.Form.{Form}
-use Rattle.table.specs.Refusals.{place, Outcome, accepted, refused}
+use Rattle.table.specs.Refusals.{past, Outcome, accepted, refused}
+use Rattle.table.specs.Kinds.{frameKind, hereKind, eitherKind, tableEnd, runHere, sendAway, planEnd}
 
 -- "Two-byte numbers are low byte first."
 abbrev pub wordAt : List ℕ → ℕ → ℕ
@@ -27,13 +29,13 @@ form m n = record { meaning = m; body = n }
 -- "One byte of kind, then a body whose length the kind fixes." The table of kinds, line by line.
 unfoldable pub formOf : ℕ → Form
 formOf k =
-    cond (eqb k 0x10) (form Frame 2)
-    (cond (eqb k 0x11) (form (Row HereRow) 3)
-    (cond (eqb k 0x12) (form (Row EitherRow) 7)
-    (cond (eqb k 0x1F) (form (Row EndRow) 0)
-    (cond (eqb k 0x20) (form (Step HereStep) 1)
-    (cond (eqb k 0x21) (form (Step AwayStep) 1)
-    (cond (eqb k 0x2F) (form (Step EndStep) 0)
+    cond (eqb k frameKind) (form Frame 2)
+    (cond (eqb k hereKind) (form (Row HereRow) 3)
+    (cond (eqb k eitherKind) (form (Row EitherRow) 7)
+    (cond (eqb k tableEnd) (form (Row EndRow) 0)
+    (cond (eqb k runHere) (form (Step HereStep) 1)
+    (cond (eqb k sendAway) (form (Step AwayStep) 1)
+    (cond (eqb k planEnd) (form (Step EndStep) 0)
     (form Unknown 0)))))))
 
 -- what may stand at a place of a file: the frame record first, then rows; in a plan steps
@@ -55,25 +57,24 @@ stepOnly (Row k) = none
 stepOnly (Step k) = some k
 stepOnly Unknown = none
 
-module _ {K R : Type 0} (refuse : Refusal → R) (read : K → R) where
-  -- kind not allowed here KIND; body cut SHORT; else the record is read
-  abbrev pub allowed : ℕ → Bool → Option K → R
-  allowed at whole none = refuse (Kind (place at))
-  allowed at whole (some k) = cond whole (read k) (refuse (Short (place at)))
+module _ {K R : Type 0} (refuse : Refusal → R) (read : Place → K → R) where
+  -- kind not allowed here KIND; body cut SHORT; else the record is read, and the next one stands past its body
+  abbrev pub allowed : Place → ℕ → Bool → Option K → R
+  allowed p body whole none = refuse (Kind p)
+  allowed p body whole (some k) = cond whole (read (past p body) k) (refuse (Short p))
 
   -- "within one: no byte left SHORT; kind unknown or not allowed here KIND; body cut SHORT"
-  unfoldable pub judged : (Meaning → Option K) → List ℕ → ℕ → R
-  judged may s at =
-      cond (ltb at (length s))
-      (allowed at (leb (formOf (getD s at 0) .body) (length s - (at + 1))) (may (formOf (getD s at 0) .meaning)))
-      (refuse (Short (place at)))
+  unfoldable pub judged : (Meaning → Option K) → List ℕ → Place → R
+  judged may s p =
+      let f = formOf (getD s (p .at) 0) in
+      cond (ltb (p .at) (length s)) (allowed p (f .body) (leb (f .body) (length s - (p .at + 1))) (may (f .meaning))) (refuse (Short p))
 
 -- A file is a list of records, each with an id of its own, and an end record.
 
 -- what the reading of one record comes to: one more of what is listed, with the place after it; the end, with the place after it; or a refusal
 pub data Entry (A : Type 0) : Type 0 where
-  one : A → ℕ → Entry A
-  last : ℕ → Entry A
+  one : A → Place → Entry A
+  last : Place → Entry A
   bad : Refusal → Entry A
 
 -- "id used before in the same file"
@@ -81,15 +82,15 @@ unfoldable pub used : List ℕ → ℕ → Bool
 used [] id = false
 used (i ∷ is) id = eqb i id || used is id
 
-module _ {A : Type 0} (idOf : A → ℕ) (entryAt : ℕ → ℕ → Entry A) (size : ℕ) where
-  -- what the record at `at` leads to, with what is listed before it: an id used before TWICE; "After the end record, AFTER"; `on` reads the records after it
-  abbrev pub follow : (List A → ℕ → Outcome (List A)) → List A → ℕ → Entry A → Outcome (List A)
-  follow on before at (one x p) = cond (used (map idOf before) (idOf x)) (refused (Twice (place at))) (on (before ++ (x ∷ [])) p)
-  follow on before at (last p) = cond (leb size p) (accepted before) (refused (After (place p)))
-  follow on before at (bad f) = refused f
+module _ {A : Type 0} (idOf : A → ℕ) (entryAt : Place → ℕ → Entry A) (size : ℕ) where
+  -- what the record at `p` leads to, with what is listed before it: an id used before TWICE; "After the end record, AFTER"; `on` reads the records after it
+  abbrev pub follow : (List A → Place → Outcome (List A)) → List A → Place → Entry A → Outcome (List A)
+  follow on before p (one x next) = cond (used (map idOf before) (idOf x)) (refused (Twice p)) (on (before ++ (x ∷ [])) next)
+  follow on before p (last next) = cond (leb size (next .at)) (accepted before) (refused (After next))
+  follow on before p (bad f) = refused f
 
-  -- "Records are judged in file order": those from `at` on, of which `left` may still come, 32 that are listed and the end.
-  -- `entryAt at n` reads the record at `at` with n listed before it, and refuses a 33rd, so `left` is never 0 before the end.
-  unfoldable pub listFrom : ℕ → List A → ℕ → Outcome (List A)
-  listFrom zero before at = refused (Many (place at))
-  listFrom (suc left) before at = follow (listFrom left) before at (entryAt at (length before))
+  -- "Records are judged in file order": those from `p` on, of which `left` may still come, 32 that are listed and the end.
+  -- `entryAt p n` reads the record at `p` with n listed before it, and refuses a 33rd, so `left` is never 0 before the end.
+  unfoldable pub listFrom : ℕ → List A → Place → Outcome (List A)
+  listFrom zero before p = refused (Many p)
+  listFrom (suc left) before p = follow (listFrom left) before p (entryAt p (length before))

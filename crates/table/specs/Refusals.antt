@@ -1,6 +1,6 @@
 -- Document 01, 'Refusal numbers': what each refusal says to the caller, its number and its values.
 -- Assumes nothing.
-use Prim.Native.Nat.{ℕ}
+use Prim.Native.Nat.{ℕ, _+_}
 use mathlib.Core.Bool.{true, false}
 use mathlib.Core.List.{List, [], _∷_}
 use Rattle.table.specs.declared.refusal.Place.{Place}
@@ -9,8 +9,13 @@ use Rattle.table.specs.declared.refusal.Refusal.{Refusal}
 use Rattle.table.specs.declared.refusal.Refusal.the-variants.{Short, Kind, Range, Many, Twice, After, None, Stranger, Kept, Left, Late, Phase, Number}
 use Rattle.table.specs.declared.refusal.Refusal.the-variants.{Clock, Who, Value, Early, Room}
 
-abbrev pub place : ℕ → Place
-place n = record { at = n }
+-- "The place is the offset of the record's kind byte": that of a file's first record,
+abbrev pub start : Place
+start = record { at = 0 }
+
+-- and that of the next, as one byte of kind and a body of this length stand before it
+abbrev pub past : Place → ℕ → Place
+past p body = record { at = p .at + 1 + body }
 
 -- "1 to 6 return number and place, the rest the number."
 abbrev pub refusalSays : Refusal → List ℕ

@@ -13,19 +13,21 @@ use Rattle.model.specs.Positions.{noJob}
 use Rattle.model.specs.Lists.{All, Pairwise}
 use Rattle.model.specs.Timetable.{setupTime, returnTime, Chosen}
 use Rattle.model.specs.FreeOrder.{busy}
+use Rattle.table.specs.declared.refusal.Place.{Place}
 use Rattle.table.specs.declared.refusal.Refusal.the-variants.{Range, Many, After}
 use Rattle.table.specs.declared.kind.RowKind.{RowKind}
 use Rattle.table.specs.declared.kind.RowKind.the-variants.{HereRow, EitherRow, EndRow}
 use Rattle.table.specs.declared.Table.{Table}
 use Rattle.table.specs.declared.FrameRead.{FrameRead}
-use Rattle.table.specs.declared.FrameRead.the-variants.{Deadline, FrameRefused}
+use Rattle.table.specs.declared.FrameRead.the-variants.{FrameIs, FrameRefused}
 use Rattle.table.specs.declared.JobRead.{JobRead}
 use Rattle.table.specs.declared.JobRead.the-variants.{JobIs, JobsEnd, JobRefused}
 use Rattle.table.specs.declared.TableVerdict.{TableVerdict}
 use Rattle.table.specs.declared.TableVerdict.the-variants.{Whole, Refused}
 use Rattle.table.specs.declared.TableRead.{TableRead}
 use Rattle.table.specs.Limits.{mostJobs, largestTime}
-use Rattle.table.specs.Refusals.{refusalSays, place, Outcome, accepted, refused}
+use Rattle.table.specs.Refusals.{start, refusalSays, Outcome, accepted, refused}
+use Rattle.table.specs.Kinds.{frameKind, hereKind, eitherKind, tableEnd}
 use Rattle.table.specs.Records.{wordAt, frameOnly, rowOnly, judged, Entry, one, last, bad, listFrom}
 
 -- What a table means: a deadline and its jobs.
@@ -45,50 +47,52 @@ runBusy t cs = busy cs
 abbrev pub timeOk : ℕ → Bool
 timeOk t = leb t largestTime
 
--- The first record: D.
-abbrev pub deadlineAt : List ℕ → FrameRead
-deadlineAt s = cond (ltb 0 (wordAt s 1) && timeOk (wordAt s 1)) (Deadline (wordAt s 1)) (FrameRefused (Range (place 0)))
+-- The first record: D, and the place of the record after it.
+abbrev pub deadlineAt : List ℕ → Place → Place → FrameRead
+deadlineAt s p next =
+    let D = wordAt s (p .at + 1) in
+    cond (ltb 0 D && timeOk D) (FrameIs D next) (FrameRefused (Range p))
 
-unfoldable pub frameAt : List ℕ → FrameRead
-frameAt s = judged FrameRefused (λ (u : Unit {0}). deadlineAt s) frameOnly s 0
+unfoldable pub frameAt : List ℕ → Place → FrameRead
+frameAt s p = judged FrameRefused (λ (next : Place) (u : Unit {0}). deadlineAt s p next) frameOnly s p
 
 -- The bodies of the two kinds of job, once they are whole: "here-only: id, C", "either: id, C, S, I".
-abbrev pub hereAt : List ℕ → ℕ → Job
-hereAt s at = record { id = getD s (at + 1) 0; local = wordAt s (at + 2); sending = HereOnly }
+abbrev pub hereAt : List ℕ → Place → Job
+hereAt s p = record { id = getD s (p .at + 1) 0; local = wordAt s (p .at + 2); sending = HereOnly }
 
-abbrev pub eitherAt : List ℕ → ℕ → Job
-eitherAt s at = record { id = getD s (at + 1) 0; local = wordAt s (at + 2); sending = Either (wordAt s (at + 4)) (wordAt s (at + 6)) }
+abbrev pub eitherAt : List ℕ → Place → Job
+eitherAt s p = record { id = getD s (p .at + 1) 0; local = wordAt s (p .at + 2); sending = Either (wordAt s (p .at + 4)) (wordAt s (p .at + 6)) }
 
-abbrev pub hereJob : List ℕ → ℕ → JobRead
-hereJob s at = cond (timeOk (wordAt s (at + 2))) (JobIs (hereAt s at) (place (at + 4))) (JobRefused (Range (place at)))
+abbrev pub hereJob : List ℕ → Place → Place → JobRead
+hereJob s p next = cond (timeOk (wordAt s (p .at + 2))) (JobIs (hereAt s p) next) (JobRefused (Range p))
 
-abbrev pub eitherJob : List ℕ → ℕ → JobRead
-eitherJob s at =
-    cond (timeOk (wordAt s (at + 2)) && (timeOk (wordAt s (at + 4)) && timeOk (wordAt s (at + 6))))
-    (JobIs (eitherAt s at) (place (at + 8)))
-    (JobRefused (Range (place at)))
+abbrev pub eitherJob : List ℕ → Place → Place → JobRead
+eitherJob s p next =
+    cond (timeOk (wordAt s (p .at + 2)) && (timeOk (wordAt s (p .at + 4)) && timeOk (wordAt s (p .at + 6))))
+    (JobIs (eitherAt s p) next)
+    (JobRefused (Range p))
 
 -- "33rd job MANY; RANGE", where `count` jobs stand before
-abbrev pub rowBody : List ℕ → ℕ → ℕ → RowKind → JobRead
-rowBody s at count HereRow = cond (ltb count mostJobs) (hereJob s at) (JobRefused (Many (place at)))
-rowBody s at count EitherRow = cond (ltb count mostJobs) (eitherJob s at) (JobRefused (Many (place at)))
-rowBody s at count EndRow = JobsEnd (place (at + 1))
+abbrev pub rowBody : List ℕ → Place → ℕ → Place → RowKind → JobRead
+rowBody s p count next HereRow = cond (ltb count mostJobs) (hereJob s p next) (JobRefused (Many p))
+rowBody s p count next EitherRow = cond (ltb count mostJobs) (eitherJob s p next) (JobRefused (Many p))
+rowBody s p count next EndRow = JobsEnd next
 
-unfoldable pub jobAt : List ℕ → ℕ → ℕ → JobRead
-jobAt s at count = judged JobRefused (rowBody s at count) rowOnly s at
+unfoldable pub jobAt : List ℕ → Place → ℕ → JobRead
+jobAt s p count = judged JobRefused (rowBody s p count) rowOnly s p
 
 -- a record's answer as the reading of one record
 abbrev pub jobEntry : JobRead → Entry Job
-jobEntry (JobIs j p) = one j (p .at)
-jobEntry (JobsEnd p) = last (p .at)
+jobEntry (JobIs j next) = one j next
+jobEntry (JobsEnd next) = last next
 jobEntry (JobRefused f) = bad f
 
 abbrev pub jobId : Job → ℕ
 jobId j = j .id
 
--- "0 to 32 jobs with distinct ids, one 0x1F, nothing after": the records after the first, which takes three bytes
-unfoldable pub jobsRead : List ℕ → Outcome (List Job)
-jobsRead s = listFrom jobId (λ (at count : ℕ). jobEntry (jobAt s at count)) (length s) (suc mostJobs) [] 3
+-- "0 to 32 jobs with distinct ids, one 0x1F, nothing after": the records from a place on, which is where the first one ends
+unfoldable pub jobsRead : List ℕ → Place → Outcome (List Job)
+jobsRead s = listFrom jobId (λ (p : Place) (count : ℕ). jobEntry (jobAt s p count)) (length s) (suc mostJobs) []
 
 -- the jobs, with the deadline beside them
 abbrev pub withDeadline : ℕ → Outcome (List Job) → Outcome JobTable
@@ -96,23 +100,24 @@ withDeadline D (accepted js) = accepted (record { deadline = D; jobs = js })
 withDeadline D (refused f) = refused f
 
 abbrev pub afterFrame : List ℕ → FrameRead → Outcome JobTable
-afterFrame s (Deadline D) = withDeadline D (jobsRead s)
+afterFrame s (FrameIs D next) = withDeadline D (jobsRead s next)
 afterFrame s (FrameRefused f) = refused f
 
 unfoldable pub readTable : List ℕ → Outcome JobTable
-readTable s = afterFrame s (frameAt s)
+readTable s = afterFrame s (frameAt s start)
 
 -- What every accepted table is (proofs/Accepted.antt).
 
-pub record TimesOk (j : Job) : Type 0 where
-  pub local : j .local ≤ largestTime
-  pub setup : setupTime j ≤ largestTime
-  pub back : returnTime j ≤ largestTime
+-- no time is above this
+pub record TimesOk (most : ℕ) (j : Job) : Type 0 where
+  pub local : j .local ≤ most
+  pub setup : setupTime j ≤ most
+  pub back : returnTime j ≤ most
 
 pub record GoodTable (t : JobTable) : Type 0 where
   pub few : length (t .jobs) ≤ mostJobs
   pub distinct : Pairwise (λ (i j : Job). ¬ (i .id ≡ j .id)) (t .jobs)
-  pub times : All TimesOk (t .jobs)
+  pub times : All (TimesOk largestTime) (t .jobs)
   pub low : 1 ≤ t .deadline
   pub high : t .deadline ≤ largestTime
 
@@ -144,8 +149,8 @@ verdictSays Whole = 0 ∷ []
 verdictSays (Refused f) = refusalSays f
 
 -- what `ended_at` answers: "After the end record, AFTER"
-unfoldable pub endVerdict : List ℕ → ℕ → TableVerdict
-endVerdict s at = cond (leb (length s) at) Whole (Refused (After (place at)))
+unfoldable pub endVerdict : List ℕ → Place → TableVerdict
+endVerdict s p = cond (leb (length s) (p .at)) Whole (Refused (After p))
 
 abbrev pub isWhole : TableVerdict → Bool
 isWhole Whole = true
@@ -157,15 +162,15 @@ abbrev pub wordBytes : ℕ → List ℕ
 wordBytes n = n % 256 ∷ n / 256 ∷ []
 
 abbrev pub sendingBytes : ℕ → ℕ → Sending → List ℕ
-sendingBytes id C HereOnly = 0x11 ∷ id ∷ wordBytes C
-sendingBytes id C (Either S I) = 0x12 ∷ id ∷ (wordBytes C ++ (wordBytes S ++ wordBytes I))
+sendingBytes id C HereOnly = hereKind ∷ id ∷ wordBytes C
+sendingBytes id C (Either S I) = eitherKind ∷ id ∷ (wordBytes C ++ (wordBytes S ++ wordBytes I))
 
 abbrev pub jobBytes : Job → List ℕ
 jobBytes j = sendingBytes (j .id) (j .local) (j .sending)
 
 unfoldable pub jobsBytes : List Job → List ℕ
-jobsBytes [] = 0x1F ∷ []
+jobsBytes [] = tableEnd ∷ []
 jobsBytes (j ∷ js) = jobBytes j ++ jobsBytes js
 
 unfoldable pub tableBytes : JobTable → List ℕ
-tableBytes t = 0x10 ∷ (wordBytes (t .deadline) ++ jobsBytes (t .jobs))
+tableBytes t = frameKind ∷ (wordBytes (t .deadline) ++ jobsBytes (t .jobs))

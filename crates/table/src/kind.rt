@@ -1,6 +1,21 @@
-// The kinds of record of tables and plans: what a kind byte means, and how long the body is that it fixes.
+// The kinds of record of tables and plans: their bytes, what a kind byte means, and how long the body is that it fixes.
 ghost use mathlib.Core.Path.{_≡_};
 ghost use Rattle.table.specs.Records.{formOf};
+
+// The bytes of the kinds, stated once; specs/Kinds.antt has the same, and `form_of` ties the two.
+pub const FRAME: u8 = 0x10;
+
+pub const HERE_JOB: u8 = 0x11;
+
+pub const EITHER_JOB: u8 = 0x12;
+
+pub const TABLE_END: u8 = 0x1F;
+
+pub const RUN_HERE: u8 = 0x20;
+
+pub const SEND_AWAY: u8 = 0x21;
+
+pub const PLAN_END: u8 = 0x2F;
 
 // The records of a table after the first.
 pub enum RowKind {
@@ -32,35 +47,35 @@ pub fn form_of(kind: u8) -> Form
     ensures { λ r. ⌜ r ≡ formOf kind ⌝ }
 {
     match kind {
-        0x10 => Form {
+        FRAME => Form {
             meaning: Meaning::Frame,
             body: 2,
         },
-        0x11 => Form {
+        HERE_JOB => Form {
             meaning: Meaning::Row(RowKind::HereRow),
             body: 3,
         },
-        0x12 => Form {
+        EITHER_JOB => Form {
             meaning: Meaning::Row(RowKind::EitherRow),
             body: 7,
         },
-        0x1F => Form {
+        TABLE_END => Form {
             meaning: Meaning::Row(RowKind::EndRow),
             body: 0,
         },
-        0x20 => Form {
+        RUN_HERE => Form {
             meaning: Meaning::Step(StepKind::HereStep),
             body: 1,
         },
-        0x21 => Form {
+        SEND_AWAY => Form {
             meaning: Meaning::Step(StepKind::AwayStep),
             body: 1,
         },
-        0x2F => Form {
+        PLAN_END => Form {
             meaning: Meaning::Step(StepKind::EndStep),
             body: 0,
         },
-        0x00..=0x0F | 0x13..=0x1E | 0x22..=0x2E | 0x30..=0xFF => Form {
+        _ => Form {
             meaning: Meaning::Unknown,
             body: 0,
         },

@@ -74,8 +74,9 @@ impl Table {
     }
 }
 
+// The deadline with the place of the record after it; or a refusal.
 pub enum FrameRead {
-    Deadline(u16),
+    FrameIs(u16, Place),
     FrameRefused(Refusal),
 }
 
@@ -110,35 +111,39 @@ fn word_at(s: &[u8], at: usize) -> u16
     wide(s[at]) + 256 * wide(s[at + 1])
 }
 
-fn frame_at(s: &[u8]) -> FrameRead
-    ensures { λ r. ⌜ r ≡ frameAt (now (s .entry)) ⌝ }
+// The record at a place where a table begins.
+fn frame_at(s: &[u8], p: Place) -> FrameRead
+    ensures { λ r. ⌜ r ≡ frameAt (now (s .entry)) p ⌝ }
 {
-    if s.len() == 0 {
-        return FrameRead::FrameRefused(Refusal::Short(Place { at: 0 }));
+    let at = p.at;
+    if s.len() <= at {
+        return FrameRead::FrameRefused(Refusal::Short(p));
     }
-    let form = kind::form_of(s[0]);
+    let form = kind::form_of(s[at]);
     let meaning = form.meaning;
     let body = form.body;
     let Meaning::Frame = meaning else {
-        return FrameRead::FrameRefused(Refusal::Kind(Place { at: 0 }));
+        return FrameRead::FrameRefused(Refusal::Kind(p));
     };
-    if s.len() - 1 < body {
-        return FrameRead::FrameRefused(Refusal::Short(Place { at: 0 }));
+    if s.len() - (at + 1) < body {
+        return FrameRead::FrameRefused(Refusal::Short(p));
     }
-    let d = word_at(s, 1);
+    let next = p.past(body);
+    let d = word_at(s, at + 1);
     if d == 0 {
-        return FrameRead::FrameRefused(Refusal::Range(Place { at: 0 }));
+        return FrameRead::FrameRefused(Refusal::Range(p));
     }
     if Table::LARGEST_TIME < d {
-        return FrameRead::FrameRefused(Refusal::Range(Place { at: 0 }));
+        return FrameRead::FrameRefused(Refusal::Range(p));
     }
-    FrameRead::Deadline(d)
+    FrameRead::FrameIs(d, next)
 }
 
-fn here_job(s: &[u8], at: usize) -> JobRead
-    requires { ⌜ at + 4 ≤ length (now s) ⌝ }
-    ensures { λ r. ⌜ r ≡ hereJob (now (s .entry)) at ⌝ }
+fn here_job(s: &[u8], p: Place, next: Place) -> JobRead
+    requires { ⌜ p .at + 3 < length (now s) ⌝ }
+    ensures { λ r. ⌜ r ≡ hereJob (now (s .entry)) p next ⌝ }
 {
+    let at = p.at;
     let local = word_at(s, at + 2);
     if local <= Table::LARGEST_TIME {
         JobRead::JobIs(
@@ -147,28 +152,29 @@ fn here_job(s: &[u8], at: usize) -> JobRead
                 local,
                 sending: Sending::HereOnly,
             },
-            Place { at: at + 4 },
+            next,
         )
     } else {
-        JobRead::JobRefused(Refusal::Range(Place { at }))
+        JobRead::JobRefused(Refusal::Range(p))
     }
 }
 
-fn either_job(s: &[u8], at: usize) -> JobRead
-    requires { ⌜ at + 8 ≤ length (now s) ⌝ }
-    ensures { λ r. ⌜ r ≡ eitherJob (now (s .entry)) at ⌝ }
+fn either_job(s: &[u8], p: Place, next: Place) -> JobRead
+    requires { ⌜ p .at + 7 < length (now s) ⌝ }
+    ensures { λ r. ⌜ r ≡ eitherJob (now (s .entry)) p next ⌝ }
 {
+    let at = p.at;
     let local = word_at(s, at + 2);
     let setup = word_at(s, at + 4);
     let back = word_at(s, at + 6);
     if Table::LARGEST_TIME < local {
-        return JobRead::JobRefused(Refusal::Range(Place { at }));
+        return JobRead::JobRefused(Refusal::Range(p));
     }
     if Table::LARGEST_TIME < setup {
-        return JobRead::JobRefused(Refusal::Range(Place { at }));
+        return JobRead::JobRefused(Refusal::Range(p));
     }
     if Table::LARGEST_TIME < back {
-        return JobRead::JobRefused(Refusal::Range(Place { at }));
+        return JobRead::JobRefused(Refusal::Range(p));
     }
     JobRead::JobIs(
         Job {
@@ -176,39 +182,41 @@ fn either_job(s: &[u8], at: usize) -> JobRead
             local,
             sending: Sending::Either { setup, back },
         },
-        Place { at: at + 8 },
+        next,
     )
 }
 
 // The record at a place after the first, where `count` jobs stand before it.
-fn job_at(s: &[u8], at: usize, count: usize) -> JobRead
-    ensures { λ r. ⌜ r ≡ jobAt (now (s .entry)) at count ⌝ }
+fn job_at(s: &[u8], p: Place, count: usize) -> JobRead
+    ensures { λ r. ⌜ r ≡ jobAt (now (s .entry)) p count ⌝ }
 {
+    let at = p.at;
     if s.len() <= at {
-        return JobRead::JobRefused(Refusal::Short(Place { at }));
+        return JobRead::JobRefused(Refusal::Short(p));
     }
     let form = kind::form_of(s[at]);
     let meaning = form.meaning;
     let body = form.body;
     let Meaning::Row(row) = meaning else {
-        return JobRead::JobRefused(Refusal::Kind(Place { at }));
+        return JobRead::JobRefused(Refusal::Kind(p));
     };
     if s.len() - (at + 1) < body {
-        return JobRead::JobRefused(Refusal::Short(Place { at }));
+        return JobRead::JobRefused(Refusal::Short(p));
     }
+    let next = p.past(body);
     match row {
-        RowKind::EndRow => JobRead::JobsEnd(Place { at: at + 1 }),
+        RowKind::EndRow => JobRead::JobsEnd(next),
         RowKind::HereRow => {
             if Table::MOST_JOBS <= count {
-                return JobRead::JobRefused(Refusal::Many(Place { at }));
+                return JobRead::JobRefused(Refusal::Many(p));
             }
-            here_job(s, at)
+            here_job(s, p, next)
         }
         RowKind::EitherRow => {
             if Table::MOST_JOBS <= count {
-                return JobRead::JobRefused(Refusal::Many(Place { at }));
+                return JobRead::JobRefused(Refusal::Many(p));
             }
-            either_job(s, at)
+            either_job(s, p, next)
         }
     }
 }
@@ -224,13 +232,13 @@ fn table_refused(f: Refusal) -> TableRead
 }
 
 // Nothing may stand after the end record.
-fn ended_at(s: &[u8], at: usize) -> TableVerdict
-    ensures { λ r. ⌜ r ≡ endVerdict (now (s .entry)) at ⌝ }
+fn ended_at(s: &[u8], p: Place) -> TableVerdict
+    ensures { λ r. ⌜ r ≡ endVerdict (now (s .entry)) p ⌝ }
 {
-    if s.len() <= at {
+    if s.len() <= p.at {
         TableVerdict::Whole
     } else {
-        TableVerdict::Refused(Refusal::After(Place { at }))
+        TableVerdict::Refused(Refusal::After(p))
     }
 }
 
@@ -243,28 +251,27 @@ fn is_whole(verdict: TableVerdict) -> bool
     }
 }
 
-// The records after the first; `seen` tells the ids that stand before. There is one way out, so that the table is made where it is answered.
-fn jobs_from(s: &[u8], deadline: u16) -> TableRead
-    ensures { λ r. ⌜ r ≡ tableRead (withDeadline deadline (jobsRead (now (s .entry)))) ⌝ }
+// The records from a place on; `seen` tells the ids that stand before. There is one way out, so that the table is made where it is answered.
+fn jobs_from(s: &[u8], mut p: Place, deadline: u16) -> TableRead
+    ensures { λ r. ⌜ r ≡ tableRead (withDeadline deadline (jobsRead (now (s .entry)) p)) ⌝ }
 {
     let mut t = Table::empty();
     t.deadline = deadline;
     let mut seen = [false; 256];
-    let mut at = 3;
     let verdict = loop {
-        match job_at(s, at, t.count) {
-            JobRead::JobIs(j, p) => {
+        match job_at(s, p, t.count) {
+            JobRead::JobIs(j, next) => {
                 let id = j.id as usize;
                 if seen[id] {
-                    break TableVerdict::Refused(Refusal::Twice(Place { at }));
+                    break TableVerdict::Refused(Refusal::Twice(p));
                 }
                 seen[id] = true;
                 let n = t.count;
                 t.jobs[n] = j;
                 t.count = n + 1;
-                at = p.at;
+                p = next;
             }
-            JobRead::JobsEnd(p) => break ended_at(s, p.at),
+            JobRead::JobsEnd(next) => break ended_at(s, next),
             JobRead::JobRefused(f) => break TableVerdict::Refused(f),
         }
     };
@@ -277,8 +284,8 @@ fn jobs_from(s: &[u8], deadline: u16) -> TableRead
 pub fn read_table(s: &[u8]) -> TableRead
     ensures { λ r. ⌜ r ≡ tableRead (readTable (now (s .entry))) ⌝ }
 {
-    match frame_at(s) {
-        FrameRead::Deadline(d) => jobs_from(s, d),
+    match frame_at(s, Place::start()) {
+        FrameRead::FrameIs(d, next) => jobs_from(s, next, d),
         FrameRead::FrameRefused(f) => table_refused(f),
     }
 }

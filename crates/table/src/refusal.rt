@@ -1,11 +1,31 @@
 // What is refused, by document 01's numbers (specs/Refusals.antt), and the place that refusals 1 to 6 name.
 ghost use mathlib.Core.List.{[], _∷_};
 ghost use mathlib.Core.Path.{_≡_};
-ghost use Rattle.table.specs.Refusals.{refusalSays, saidBy};
+ghost use Prim.Native.Nat.{_+_, _<_, _^_};
+ghost use Rattle.table.specs.Refusals.{start, past, refusalSays, saidBy};
 
-// Where in the bytes a refused record stands: the offset of its kind byte.
+// Where in the bytes a record stands: the offset of its kind byte. The readers go from place to place by the two functions here, which alone make one.
 pub struct Place {
     pub at: usize,
+}
+
+impl Place {
+    // The place of a file's first record.
+    pub fn start() -> Place
+        ensures { λ r. ⌜ r ≡ start ⌝ }
+    {
+        Place { at: 0 }
+    }
+
+    // The place of the record after this one, whose body has this length.
+    pub fn past(self, body: usize) -> Place
+        requires { ⌜ self .at + 1 + body < 2 ^ 64 ⌝ }
+        ensures { λ r. ⌜ r ≡ past self body ⌝ }
+    {
+        Place {
+            at: self.at + 1 + body,
+        }
+    }
 }
 
 // In the order of document 01's table, numbers 1 to 18.

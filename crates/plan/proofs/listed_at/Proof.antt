@@ -18,13 +18,10 @@ add-t9 c = search needs
 shared-slice-read-t11 : tie.Need-shared-slice-read-t11
 shared-slice-read-t11 c = search needs
 
-add-t9-2 : tie.Need-add-t9-2
-add-t9-2 c = search needs
-
 returns-2 : tie.Need-returns-2
 returns-2 c =
-    let room : c .before .before .args .count < mostJobs = omega arith in
+    let room : c .before .before .before .args .count < mostJobs = omega arith in
     simp (lt-ltb _ _ room)
 
 pub listed-at-spec : {M : Type 1} → statement M
-listed-at-spec = tie.close (tie.spec returns add-t9 shared-slice-read-t11 add-t9-2 returns-2)
+listed-at-spec = tie.close (tie.spec returns add-t9 shared-slice-read-t11 returns-2)

@@ -3,6 +3,7 @@ use mathlib.Core.Path.{_≡_}
 use mathlib.Core.Bool.{cond}
 use mathlib.Core.Logic.{⊎-elim}
 use borrow.Author.Needs.{needs}
+use Rattle.table.specs.Kinds.{runHere, sendAway}
 use Rattle.plan.proofs.put_step.Statement.{statement}
 use Rattle.plan.proofs.put_step.Tie as tie
 
@@ -18,7 +19,7 @@ same-length c = search needs
 returns : tie.Need-returns
 returns c =
     let choice = c .before .before .before .before .before .if1 in
-    let kind : choice .kind ≡ cond (c .before .before .before .before .before .before .before .args .step .away) 0x21 0x20 =
+    let kind : choice .kind ≡ cond (c .before .before .before .before .before .before .before .args .step .away) sendAway runHere =
     ⊎-elim (λ x. simp (x .0 .taken) (x .1)) (λ x. simp (x .0 .left) (x .1)) (choice .came) in
     rw kind at (c .before .before .put .ensures)
 

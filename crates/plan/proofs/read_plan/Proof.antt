@@ -8,7 +8,9 @@ use mathlib.Core.List.{List, [], _∷_, _++_}
 use denote.Ref.{now}
 use lib.ListN.{length}
 use borrow.Author.Needs.{needs}
+use Rattle.table.specs.declared.refusal.Place.{Place}
 use Rattle.table.specs.Limits.{mostJobs}
+use Rattle.table.specs.Refusals.{start}
 use Rattle.table.specs.Records.{one}
 use Rattle.table.proofs.Listed.{SoFar, so-far-begin, so-far-refused, so-far-ended, so-far-twice, so-far-more}
 use Rattle.plan.specs.declared.Step.{Step}
@@ -20,18 +22,21 @@ use Rattle.plan.proofs.read_plan.Statement.{statement}
 use Rattle.plan.proofs.read_plan.Tie as tie
 
 -- what `read_plan` keeps: the steps read so far, which only the proof holds
-record Kept (s : List ℕ) (seen : List Bool) (count at : ℕ) : Type 0 where
+record Kept (s : List ℕ) (seen : List Bool) (count : ℕ) (p : Place) : Type 0 where
   xs : List Step
-  so : SoFar stepId (planEntry s) (length s) 0 xs count seen at
+  so : SoFar stepId (planEntry s) (length s) start xs count seen p
 
 abbrev Inv-loop : tie.InvT-loop
-Inv-loop s seen₀ count₀ at₀ seen count at = Kept s seen count at
+Inv-loop s seen₀ count₀ p₀ seen count p = Kept s seen count p
 
 abbrev μ-loop : tie.MeasureT-loop
-μ-loop s seen₀ count₀ at₀ seen count at = suc mostJobs - count
+μ-loop s seen₀ count₀ p₀ seen count p = suc mostJobs - count
+
+start-requires : tie.Need-start-requires Inv-loop μ-loop
+start-requires c κs = search needs
 
 loop-holds : tie.Need-loop-holds Inv-loop μ-loop
-loop-holds c = record { xs = []; so = so-far-begin _ _ _ 0 }
+loop-holds c = record { xs = []; so = rw (c .start .ensures) (so-far-begin _ _ _ start) }
 
 record-at-requires : tie.Need-record-at-requires Inv-loop μ-loop
 record-at-requires c κs = search needs
@@ -66,7 +71,7 @@ listed :
     (c : tie.After-struct-known Inv-loop μ-loop) →
     let l = c .before .before .before .before .before .before .before .before .loop in
     let read = c .before .before .«record» .given .0 in
-    planEntry (now (c .before .before .before .before .before .before .before .before .before .before .args .s)) (l .at) (l .count) ≡ one (read .0) (read .1 .0 .at)
+    planEntry (now (c .before .before .before .before .before .before .before .before .before .before .before .args .s)) (l .p) (l .count) ≡ one (read .0) (read .1 .0)
 listed c =
     ap stepEntry
     (sym (c .before .before .before .before .before .before .before .record-at .ensures) ∙
@@ -106,7 +111,7 @@ ended-at-requires c κs = search needs
 returns-3 : tie.Need-returns-3 Inv-loop μ-loop
 unfolding readPlan
 returns-3 c =
-    let s = now (c .before .before .before .before .before .before .before .before .before .before .args .s) in
+    let s = now (c .before .before .before .before .before .before .before .before .before .before .before .args .s) in
     let inv = c .before .before .before .before .before .before .before .before .loop .inv in
     let last = c .before .before .record2 .given in
     let read =
@@ -114,7 +119,7 @@ returns-3 c =
     (sym (c .before .before .before .before .before .before .before .record-at .ensures) ∙
     (c .before .before .before .before .before .answer .given .1 ∙ ap RecordIs (last .1))) in
     c .ended-at .ensures ∙
-    rw (inv .so .counted) (ended-count s (inv .xs) (last .0 .0 .at) ∙ ap planRead (so-far-ended _ _ _ (inv .so) read))
+    rw (inv .so .counted) (ended-count s (inv .xs) (last .0 .0) ∙ ap planRead (so-far-ended _ _ _ (inv .so) read))
 
 pub read-plan-spec : {M : Type 1} → statement M
 read-plan-spec =
@@ -122,6 +127,7 @@ read-plan-spec =
     (tie.spec
     Inv-loop
     μ-loop
+    start-requires
     loop-holds
     record-at-requires
     enum-known-answer

@@ -47,23 +47,27 @@ returns-3 c =
     (cut _ _ _ _ _ (c .before .before .before .before .form-of .ensures) (c .before .before .before .before .before .before .if1 .left) _
     (ap stepOnly (c .before .before .meaning .given .1)) (c .if2 .taken))
 
+past-requires : tie.Need-past-requires
+past-requires c κs = search needs
+
 -- once the body is whole, the answer is that of the step's body
 opens :
-    (c : tie.Else2) →
-    let a = c .before .before .before .before .before .before .before .before .args in
-    recordAt (now (a .s)) (a .at) (a .count) ≡ stepBody (now (a .s)) (a .at) (a .count) (c .before .before .meaning .given .0 .0)
+    (c : tie.After-past) →
+    let a = c .before .before .before .before .before .before .before .before .before .args in
+    recordAt (now (a .s)) (a .p) (a .count) ≡ stepBody (now (a .s)) (a .p) (a .count) (c .past .result) (c .before .before .before .meaning .given .0 .0)
 unfolding recordAt
 opens c =
-    opened _ _ _ _ _ (c .before .before .before .before .form-of .ensures) (c .before .before .before .before .before .before .if1 .left) _
-    (ap stepOnly (c .before .before .meaning .given .1)) (c .if2 .left)
+    rw (c .past .ensures)
+    (opened _ _ _ _ _ (c .before .before .before .before .before .form-of .ensures) (c .before .before .before .before .before .before .before .if1 .left) _
+    (ap stepOnly (c .before .before .before .meaning .given .1)) (c .before .if2 .left))
 
 enum-told : tie.Need-enum-told
 enum-told c = search needs
 
 listed-at-requires : tie.Need-listed-at-requires
 listed-at-requires c κs =
-    let told = c .before .before .before .before .before .before .form-of .ensures in
-    let step = c .before .before .before .before .meaning .given .1 ∙ ap Step (c .enum-told .given .1) in
+    let told = c .before .before .before .before .before .before .before .form-of .ensures in
+    let step = c .before .before .before .before .before .meaning .given .1 ∙ ap Step (c .enum-told .given .1) in
     omega (arith, ap (λ (f : Form). f .body) told, step-kind _ HereStep (sym (ap (λ (f : Form). f .meaning) told) ∙ step) .1)
 
 enum-told-2 : tie.Need-enum-told-2
@@ -71,15 +75,12 @@ enum-told-2 c = search needs
 
 listed-at-requires-2 : tie.Need-listed-at-requires-2
 listed-at-requires-2 c κs =
-    let told = c .before .before .before .before .before .before .form-of .ensures in
-    let step = c .before .before .before .before .meaning .given .1 ∙ ap Step (c .enum-told2 .given .1) in
+    let told = c .before .before .before .before .before .before .before .form-of .ensures in
+    let step = c .before .before .before .before .before .meaning .given .1 ∙ ap Step (c .enum-told2 .given .1) in
     omega (arith, ap (λ (f : Form). f .body) told, step-kind _ AwayStep (sym (ap (λ (f : Form). f .meaning) told) ∙ step) .1)
 
 enum-told-3 : tie.Need-enum-told-3
 enum-told-3 c = search needs
-
-add-t21 : tie.Need-add-t21
-add-t21 c = search needs
 
 returns-4 : tie.Need-returns-4
 returns-4 c = sym (opens (c .before .before .before) ∙ simp (c .before .enum-told .given .1) (sym (c .listed-at .ensures)))
@@ -102,12 +103,12 @@ record-at-spec =
     add-if2
     sub-if2
     returns-3
+    past-requires
     enum-told
     listed-at-requires
     enum-told-2
     listed-at-requires-2
     enum-told-3
-    add-t21
     returns-4
     returns-5
     returns-6)

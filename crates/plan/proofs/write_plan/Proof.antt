@@ -24,10 +24,10 @@ record Kept (area₀ : List ℕ) (xs : List Step) (n : ℕ) (area : List ℕ) (i
   rest : written area at (planBytes (drop i xs)) ≡ written area₀ 0 (planBytes xs)
 
 abbrev Inv-loop : tie.InvT-loop
-Inv-loop area₀ plan n i₀ at₀ t7 area i at = Kept area₀ (stepsOf plan) n area i at
+Inv-loop area₀ plan n i₀ at₀ area i at = Kept area₀ (stepsOf plan) n area i at
 
 abbrev μ-loop : tie.MeasureT-loop
-μ-loop area₀ plan n i₀ at₀ t7 area i at = n - i
+μ-loop area₀ plan n i₀ at₀ area i at = n - i
 
 loop-holds : tie.Need-loop-holds Inv-loop μ-loop
 loop-holds c = record { within = search needs; reached = search needs; size = refl; rest = refl }

@@ -31,14 +31,11 @@ returns-2 c = simp (← c .before .before .before .before .word-at .ensures, ←
 returns-3 : tie.Need-returns-3
 returns-3 c = simp (← c .before .before .before .before .before .word-at .ensures, ← c .before .before .before .before .word-at2 .ensures, ← c .before .before .before .word-at3 .ensures, le-leb _ _ (c .before .before .if1 .left), le-leb _ _ (c .before .if2 .left), lt-leb _ _ (c .if3 .taken))
 
-add-t6 : tie.Need-add-t6
-add-t6 c = search needs
+add-t8 : tie.Need-add-t8
+add-t8 c = search needs
 
-shared-slice-read-t15 : tie.Need-shared-slice-read-t15
-shared-slice-read-t15 c = search needs
-
-add-t18 : tie.Need-add-t18
-add-t18 c = search needs
+shared-slice-read-t14 : tie.Need-shared-slice-read-t14
+shared-slice-read-t14 c = search needs
 
 returns-4 : tie.Need-returns-4
 returns-4 c = simp (← c .before .before .before .before .before .before .word-at .ensures, ← c .before .before .before .before .before .word-at2 .ensures, ← c .before .before .before .before .word-at3 .ensures, le-leb _ _ (c .before .before .before .if1 .left), le-leb _ _ (c .before .before .if2 .left), le-leb _ _ (c .before .if3 .left))
@@ -56,7 +53,6 @@ either-job-spec =
     returns
     returns-2
     returns-3
-    add-t6
-    shared-slice-read-t15
-    add-t18
+    add-t8
+    shared-slice-read-t14
     returns-4)

@@ -16,7 +16,7 @@ use Rattle.table.proofs.frame_at.Tie as tie
 
 returns : tie.Need-returns
 unfolding frameAt
-returns c = sym (no-byte _ _ _ _ _ (omega arith))
+returns c = sym (no-byte _ _ _ _ _ (c .if1 .taken))
 
 shared-slice-read-form-of : tie.Need-shared-slice-read-form-of
 shared-slice-read-form-of c = search needs
@@ -31,8 +31,11 @@ returns-2 : tie.Need-returns-2
 unfolding frameAt
 returns-2 c =
     sym
-    (not-allowed _ _ _ _ _ (c .before .form-of .ensures) (omega arith)
+    (not-allowed _ _ _ _ _ (c .before .form-of .ensures) (c .before .before .before .if1 .left)
     (not-frame (c .before .form-of .result .meaning) (λ e. ⊎-elim (λ x. omega arith) (⊎-elim (λ x. omega arith) (λ x. omega arith)) (rw e at (c .match .keys2)))))
+
+add-if2 : tie.Need-add-if2
+add-if2 c = search needs
 
 sub-if2 : tie.Need-sub-if2
 sub-if2 c = search needs
@@ -40,21 +43,31 @@ sub-if2 c = search needs
 returns-3 : tie.Need-returns-3
 unfolding frameAt
 returns-3 c =
-    sym (cut _ _ _ _ _ (c .before .before .before .form-of .ensures) (omega arith) tt (ap frameOnly (c .before .enum-told .given .1)) (c .if2 .taken))
+    sym
+    (cut _ _ _ _ _ (c .before .before .before .form-of .ensures) (c .before .before .before .before .before .if1 .left) tt
+    (ap frameOnly (c .before .enum-told .given .1)) (c .if2 .taken))
+
+past-requires : tie.Need-past-requires
+past-requires c κs = search needs
 
 -- once the body is whole, the answer is that of the deadline
 opens :
-    (c : tie.Else2) →
-    let s = now (c .before .before .before .before .before .before .before .args .s) in
-    frameAt s ≡ deadlineAt s
+    (c : tie.After-past) →
+    let a = c .before .before .before .before .before .before .before .before .args in
+    frameAt (now (a .s)) (a .p) ≡ deadlineAt (now (a .s)) (a .p) (c .past .result)
 unfolding frameAt
 opens c =
-    opened _ _ _ _ _ (c .before .before .before .form-of .ensures) (omega arith) tt (ap frameOnly (c .before .enum-told .given .1)) (c .if2 .left)
+    rw (c .past .ensures)
+    (opened _ _ _ _ _ (c .before .before .before .before .form-of .ensures) (c .before .before .before .before .before .before .if1 .left) tt
+    (ap frameOnly (c .before .before .enum-told .given .1)) (c .before .if2 .left))
+
+add-word-at : tie.Need-add-word-at
+add-word-at c = search needs
 
 word-at-requires : tie.Need-word-at-requires
 word-at-requires c κs =
-    let told = c .before .before .before .form-of .ensures in
-    omega (arith, ap (λ (f : Form). f .body) told, frame-kind _ (sym (ap (λ (f : Form). f .meaning) told) ∙ c .before .enum-told .given .1) .1)
+    let told = c .before .before .before .before .form-of .ensures in
+    omega (arith, ap (λ (f : Form). f .body) told, frame-kind _ (sym (ap (λ (f : Form). f .meaning) told) ∙ c .before .before .enum-told .given .1) .1)
 
 returns-4 : tie.Need-returns-4
 returns-4 c =
@@ -80,8 +93,11 @@ frame-at-spec =
     form-of-requires
     enum-told
     returns-2
+    add-if2
     sub-if2
     returns-3
+    past-requires
+    add-word-at
     word-at-requires
     returns-4
     returns-5

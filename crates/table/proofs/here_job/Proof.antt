@@ -10,14 +10,11 @@ add-word-at c = search needs
 word-at-requires : tie.Need-word-at-requires
 word-at-requires c κs = search needs
 
-add-t7 : tie.Need-add-t7
-add-t7 c = search needs
+add-t9 : tie.Need-add-t9
+add-t9 c = search needs
 
-shared-slice-read-t9 : tie.Need-shared-slice-read-t9
-shared-slice-read-t9 c = search needs
-
-add-t12 : tie.Need-add-t12
-add-t12 c = search needs
+shared-slice-read-t11 : tie.Need-shared-slice-read-t11
+shared-slice-read-t11 c = search needs
 
 returns : tie.Need-returns
 returns c = simp (← c .before .before .word-at .ensures, le-leb _ _ (c .before .if1 .taken))
@@ -28,4 +25,4 @@ returns-2 c = simp (← c .before .word-at .ensures, lt-leb _ _ (c .if1 .left))
 pub here-job-spec : {M : Type 1} → statement M
 here-job-spec =
     tie.close
-    (tie.spec add-word-at word-at-requires add-t7 shared-slice-read-t9 add-t12 returns returns-2)
+    (tie.spec add-word-at word-at-requires add-t9 shared-slice-read-t11 returns returns-2)

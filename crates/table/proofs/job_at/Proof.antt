@@ -48,21 +48,22 @@ returns-3 c =
     (cut _ _ _ _ _ (c .before .before .before .before .form-of .ensures) (c .before .before .before .before .before .before .if1 .left) _
     (ap rowOnly (c .before .before .meaning .given .1)) (c .if2 .taken))
 
+past-requires : tie.Need-past-requires
+past-requires c κs = search needs
+
 -- once the body is whole, the answer is that of the row's body
 opens :
-    (c : tie.Else2) →
-    let a = c .before .before .before .before .before .before .before .before .args in
-    jobAt (now (a .s)) (a .at) (a .count) ≡ rowBody (now (a .s)) (a .at) (a .count) (c .before .before .meaning .given .0 .0)
+    (c : tie.After-past) →
+    let a = c .before .before .before .before .before .before .before .before .before .args in
+    jobAt (now (a .s)) (a .p) (a .count) ≡ rowBody (now (a .s)) (a .p) (a .count) (c .past .result) (c .before .before .before .meaning .given .0 .0)
 unfolding jobAt
 opens c =
-    opened _ _ _ _ _ (c .before .before .before .before .form-of .ensures) (c .before .before .before .before .before .before .if1 .left) _
-    (ap rowOnly (c .before .before .meaning .given .1)) (c .if2 .left)
+    rw (c .past .ensures)
+    (opened _ _ _ _ _ (c .before .before .before .before .before .form-of .ensures) (c .before .before .before .before .before .before .before .if1 .left) _
+    (ap rowOnly (c .before .before .before .meaning .given .1)) (c .before .if2 .left))
 
 enum-told : tie.Need-enum-told
 enum-told c = search needs
-
-add-t21 : tie.Need-add-t21
-add-t21 c = search needs
 
 enum-told-2 : tie.Need-enum-told-2
 enum-told-2 c = search needs
@@ -72,8 +73,8 @@ returns-4 c = sym (opens (c .before .before .before) ∙ simp (c .before .enum-t
 
 here-job-requires : tie.Need-here-job-requires
 here-job-requires c κs =
-    let told = c .before .before .before .before .before .before .before .form-of .ensures in
-    let row = c .before .before .before .before .before .meaning .given .1 ∙ ap Row (c .before .enum-told2 .given .1) in
+    let told = c .before .before .before .before .before .before .before .before .form-of .ensures in
+    let row = c .before .before .before .before .before .before .meaning .given .1 ∙ ap Row (c .before .enum-told2 .given .1) in
     omega (arith, ap (λ (f : Form). f .body) told, row-kind _ HereRow (sym (ap (λ (f : Form). f .meaning) told) ∙ row) .1)
 
 enum-told-3 : tie.Need-enum-told-3
@@ -84,8 +85,8 @@ returns-5 c = sym (opens (c .before .before .before) ∙ simp (c .before .enum-t
 
 either-job-requires : tie.Need-either-job-requires
 either-job-requires c κs =
-    let told = c .before .before .before .before .before .before .before .form-of .ensures in
-    let row = c .before .before .before .before .before .meaning .given .1 ∙ ap Row (c .before .enum-told3 .given .1) in
+    let told = c .before .before .before .before .before .before .before .before .form-of .ensures in
+    let row = c .before .before .before .before .before .before .meaning .given .1 ∙ ap Row (c .before .enum-told3 .given .1) in
     omega (arith, ap (λ (f : Form). f .body) told, row-kind _ EitherRow (sym (ap (λ (f : Form). f .meaning) told) ∙ row) .1)
 
 returns-6 : tie.Need-returns-6
@@ -111,8 +112,8 @@ job-at-spec =
     add-if2
     sub-if2
     returns-3
+    past-requires
     enum-told
-    add-t21
     enum-told-2
     returns-4
     here-job-requires

@@ -11,6 +11,7 @@ use lib.ListN.{length}
 use borrow.Author.Needs.{needs}
 use borrow.Author.Tests.{not-true, not-false}
 use Rattle.model.specs.declared.Job.{Job}
+use Rattle.table.specs.declared.refusal.Place.{Place}
 use Rattle.table.specs.declared.Table.{Table}
 use Rattle.table.specs.Limits.{mostJobs}
 use Rattle.table.specs.Records.{one}
@@ -21,16 +22,16 @@ use Rattle.table.proofs.jobs_from.Statement.{statement}
 use Rattle.table.proofs.jobs_from.Tie as tie
 
 -- what `jobs_from` keeps: the jobs read so far, held as a table
-record Kept (s : List ℕ) (D : ℕ) (t : Table) (seen : List Bool) (at : ℕ) : Type 0 where
+record Kept (s : List ℕ) (first : Place) (D : ℕ) (t : Table) (seen : List Bool) (p : Place) : Type 0 where
   js : List Job
   held : t ≡ tableOf D js
-  so : SoFar jobId (rowEntry s) (length s) 3 js (t .count) seen at
+  so : SoFar jobId (rowEntry s) (length s) first js (t .count) seen p
 
 abbrev Inv-loop : tie.InvT-loop
-Inv-loop s deadline t₀ seen₀ at₀ t seen at = Kept s deadline t seen at
+Inv-loop s p₀ deadline t₀ seen₀ p t seen = Kept s p₀ deadline t seen p
 
 abbrev μ-loop : tie.MeasureT-loop
-μ-loop s deadline t₀ seen₀ at₀ t seen at = suc mostJobs - t .count
+μ-loop s p₀ deadline t₀ seen₀ p t seen = suc mostJobs - t .count
 
 empty-requires : tie.Need-empty-requires Inv-loop μ-loop
 empty-requires c κs = search needs
@@ -38,7 +39,7 @@ empty-requires c κs = search needs
 loop-holds : tie.Need-loop-holds Inv-loop μ-loop
 loop-holds c =
     let none = c .empty .ensures in
-    record { js = []; held = rw none; so = rw none (so-far-begin jobId _ _ 3) }
+    record { js = []; held = rw none; so = rw none (so-far-begin jobId _ _ _) }
 
 job-at-requires : tie.Need-job-at-requires Inv-loop μ-loop
 job-at-requires c κs = search needs
@@ -57,7 +58,7 @@ listed :
     (c : tie.After-struct-known Inv-loop μ-loop) →
     let l = c .before .before .before .before .before .loop in
     let read = c .before .before .j .given .0 in
-    rowEntry (now (c .before .before .before .before .before .before .before .before .args .s)) (l .at) (l .t .count) ≡ one (read .0) (read .1 .0 .at)
+    rowEntry (now (c .before .before .before .before .before .before .before .before .args .s)) (l .p) (l .t .count) ≡ one (read .0) (read .1 .0)
 listed c = ap jobEntry (sym (c .before .before .before .before .job-at .ensures) ∙ c .before .before .j .given .1)
 
 array-write-seen : tie.Need-array-write-seen Inv-loop μ-loop
@@ -90,8 +91,8 @@ loop-again c =
       so = so-far-more _ _ _ (inv .so) (listed (c .before)) (omega arith) (room (c .before)) (c .if1 .left);
     }
 
-enum-known-p : tie.Need-enum-known-p Inv-loop μ-loop
-enum-known-p c = search needs
+enum-known-next : tie.Need-enum-known-next Inv-loop μ-loop
+enum-known-next c = search needs
 
 ended-at-requires : tie.Need-ended-at-requires Inv-loop μ-loop
 ended-at-requires c κs = search needs
@@ -102,13 +103,13 @@ enum-known-f c = search needs
 -- the loop ends at a record that is refused, at an id that was seen, or at the end record
 judged : (c : tie.At-match-came Inv-loop μ-loop) →
     let l = c .before .before .loop in
-    Judged (jobsRead (now (c .before .before .before .before .before .args .s))) (l .inv .js) (c .match .verdict)
+    Judged (jobsRead (now (c .before .before .before .before .before .args .s)) (c .before .before .before .before .before .args .p)) (l .inv .js) (c .match .verdict)
 unfolding jobsRead
 judged c =
     let inv = c .before .before .loop .inv in
     elim (c .match .came) [
       | inl (match, j, known, struct, if1, e) ↦ judged-refused _ e (so-far-twice _ _ _ (inv .so) (ap jobEntry (sym (c .before .job-at .ensures) ∙ j .given .1)) (omega arith) (if1 .taken))
-      | inr (inl (match, p, known, ended, e)) ↦ judged-ended _ _ (e ∙ ended .ensures) (so-far-ended _ _ _ (inv .so) (ap jobEntry (sym (c .before .job-at .ensures) ∙ p .given .1)))
+      | inr (inl (match, next, known, ended, e)) ↦ judged-ended _ _ (e ∙ ended .ensures) (so-far-ended _ _ _ (inv .so) (ap jobEntry (sym (c .before .job-at .ensures) ∙ next .given .1)))
       | inr (inr (match, f, known, e)) ↦ judged-refused _ e (so-far-refused _ _ _ (inv .so) (ap jobEntry (sym (c .before .job-at .ensures) ∙ f .given .1)))
     ]
 
@@ -146,7 +147,7 @@ jobs-from-spec =
     add-t
     loop-less
     loop-again
-    enum-known-p
+    enum-known-next
     ended-at-requires
     enum-known-f
     is-whole-requires
