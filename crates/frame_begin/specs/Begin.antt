@@ -17,14 +17,15 @@ use Rattle.plan.specs.Plans.{stepId, noStep, readPlan}
 use Rattle.judge.specs.declared.Checked.{Checked}
 use Rattle.judge.specs.declared.Checked.the-variants.{Passes, Fails}
 use Rattle.judge.specs.Check.{afterPlan}
-use Rattle.frame_record.specs.Sound.{none, entryId, first, isIdle, ready?}
+use Rattle.lookup.specs.Lookup.{first, positionOf, indexed}
+use Rattle.frame_record.specs.Sound.{none, entryId, isIdle, ready?}
 use Rattle.frame_record.specs.Answers.{refused, done}
 use Rattle.frame_record.specs.declared.Phase.the-variants.{Open}
 use Rattle.frame_record.specs.declared.Standing.the-variants.{Waiting}
 use Rattle.frame_record.specs.declared.Entry.{Entry}
 use Rattle.frame_record.specs.declared.Frame.{Frame}
-use Rattle.frame_record.specs.declared.Found.{Found}
-use Rattle.frame_record.specs.declared.Found.the-variants.{At, Nothing}
+use Rattle.lookup.specs.declared.Found.{Found}
+use Rattle.lookup.specs.declared.Found.the-variants.{At, Nowhere}
 use Rattle.frame_record.specs.declared.Called.{Called}
 
 -- the steps of a plan; a plan that is refused has none
@@ -41,7 +42,7 @@ module _ {A : Type 0} (d : A) (g : ℕ → A) where
 -- whether the plan sends a job away: the choice of the step, of the first n, that has its id
 abbrev pub awayAt : List plan.Step → Found → Bool
 awayAt xs (At k) = (getD xs k noStep) .away
-awayAt xs Nothing = false
+awayAt xs Nowhere = false
 
 unfoldable pub awayIn : List plan.Step → ℕ → ℕ → Bool
 awayIn xs n id = awayAt xs (first stepId noStep xs id 0 n)
@@ -54,15 +55,11 @@ unfoldable pub entriesOf : List Job → List plan.Step → ℕ → List Entry
 entriesOf js xs n = filled none (λ (i : ℕ). entryOf xs n (getD js i noJob)) n
 
 -- the position in the table of the k-th step's job
-abbrev pub position : Found → ℕ
-position (At i) = i
-position Nothing = 0
+abbrev pub stepPlace : List Job → List plan.Step → ℕ → ℕ
+stepPlace js xs k = indexed (positionOf js ((getD xs k noStep) .id))
 
-abbrev pub stepPlace : List Entry → List plan.Step → ℕ → ℕ → ℕ
-stepPlace es xs n k = position (first entryId none es ((getD xs k noStep) .id) 0 n)
-
-unfoldable pub placesOf : List Entry → List plan.Step → ℕ → List ℕ
-placesOf es xs n = filled 0 (stepPlace es xs n) n
+unfoldable pub placesOf : List Job → List plan.Step → ℕ → List ℕ
+placesOf js xs n = filled 0 (stepPlace js xs) n
 
 -- the record of a frame that opens
 abbrev pub opened : ℕ → ℕ → ℕ → List ℕ → List Entry → Frame
@@ -80,7 +77,7 @@ opened number deadline count order es = record {
 unfoldable pub begun : ℕ → JobTable → List plan.Step → Frame
 begun number t xs =
     let es = entriesOf (t .jobs) xs (length (t .jobs)) in
-    opened number (t .deadline) (length (t .jobs)) (placesOf es xs (length (t .jobs))) es
+    opened number (t .deadline) (length (t .jobs)) (placesOf (t .jobs) xs (length (t .jobs))) es
 
 -- "the check's refusals; NUMBER (never from idle)", which is "frame number not above the last one begun"
 abbrev pub mayOpen : Frame → ℕ → Bool

@@ -2,11 +2,11 @@
 use frame_record::Answer;
 use frame_record::Called;
 use frame_record::Entry;
-use frame_record::Found;
 use frame_record::Frame;
 use frame_record::Phase;
 use frame_record::Standing;
 use judge::Checked;
+use lookup::Found;
 use table::Table;
 use table::TableVerdict;
 use table::refusal::Refusal;
@@ -17,25 +17,9 @@ ghost use Rattle.table.specs.Limits.{mostJobs};
 ghost use Rattle.table.specs.Refusals.{accepted};
 ghost use Rattle.table.specs.Tables.{Sound, jobTable};
 ghost use Rattle.plan.specs.Plans.{stepId, noStep, readPlan};
-ghost use Rattle.frame_record.specs.Sound.{none, entryId, first};
+ghost use Rattle.lookup.specs.Lookup.{first};
 ghost use Rattle.frame_record.specs.Answers.{done};
-ghost use Rattle.frame_begin.specs.Begin.{stepsIn, awayIn, entriesOf, position, placesOf, begun, mayOpen, beginRead, beginStep};
-
-// The table position of the job with an id.
-fn find_in(entries: [Entry; Table::MOST_JOBS], count: usize, id: u8) -> Found
-    requires { ⌜ count ≤ mostJobs ⌝ }
-    ensures { λ r. ⌜ r ≡ first entryId none entries id 0 count ⌝ }
-{
-    let mut i = 0;
-    while i < count {
-        let e = entries[i];
-        if e.id == id {
-            return Found::At(i);
-        }
-        i += 1;
-    }
-    Found::Nothing
-}
+ghost use Rattle.frame_begin.specs.Begin.{stepsIn, awayIn, entriesOf, placesOf, begun, mayOpen, beginRead, beginStep};
 
 // Which of the first `count` steps of a plan has an id.
 fn step_of(plan: &[u8], count: usize, id: u8) -> Found
@@ -50,7 +34,7 @@ fn step_of(plan: &[u8], count: usize, id: u8) -> Found
         }
         k += 1;
     }
-    Found::Nothing
+    Found::Nowhere
 }
 
 // Whether the plan sends the job with an id away.
@@ -64,7 +48,7 @@ fn away_in(plan: &[u8], count: usize, id: u8) -> bool
             let step = plan::step_at(plan, k);
             step.away
         }
-        Found::Nothing => false,
+        Found::Nowhere => false,
     }
 }
 
@@ -93,31 +77,17 @@ fn entries_of(t: Table, plan: &[u8]) -> [Entry; Table::MOST_JOBS]
     entries
 }
 
-// The check has found every step's job, so `Nothing` does not come.
-fn position_of(found: Found) -> usize
-    ensures { λ r. ⌜ r ≡ position found ⌝ }
-{
-    match found {
-        Found::At(i) => i,
-        Found::Nothing => 0,
-    }
-}
-
 // The table positions of a plan's jobs, in plan order.
-fn places_of(
-    entries: [Entry; Table::MOST_JOBS],
-    count: usize,
-    plan: &[u8],
-) -> [usize; Table::MOST_JOBS]
-    requires { ⌜ (count ≤ mostJobs) × (count ≤ length (stepsIn (readPlan (now plan)))) ⌝ }
-    ensures { λ r. ⌜ r ≡ placesOf entries (stepsIn (readPlan (now (plan .entry)))) count ⌝ }
+fn places_of(t: Table, plan: &[u8]) -> [usize; Table::MOST_JOBS]
+    requires { ⌜ (t .count ≤ mostJobs) × (t .count ≤ length (stepsIn (readPlan (now plan)))) ⌝ }
+    ensures { λ r. ⌜ r ≡ placesOf (take (t .count) (t .jobs)) (stepsIn (readPlan (now (plan .entry)))) (t .count) ⌝ }
 {
+    let index = lookup::index_of(t);
     let mut order = [0; Table::MOST_JOBS];
     let mut k = 0;
-    while k < count {
+    while k < t.count {
         let step = plan::step_at(plan, k);
-        let found = find_in(entries, count, step.id);
-        order[k] = position_of(found);
+        order[k] = index[step.id as usize] as usize;
         k += 1;
     }
     order
@@ -129,7 +99,7 @@ fn opened_with(t: Table, plan: &[u8], number: u32) -> Called
     ensures { λ r. ⌜ r ≡ done (begun number (jobTable t) (stepsIn (readPlan (now (plan .entry))))) ⌝ }
 {
     let entries = entries_of(t, plan);
-    let order = places_of(entries, t.count, plan);
+    let order = places_of(t, plan);
     Called {
         answer: Answer::Done,
         frame: Frame {

@@ -15,8 +15,8 @@ use Rattle.frame_record.specs.declared.Reading.{Reading}
 use Rattle.frame_record.specs.declared.Reading.the-variants as reads
 use Rattle.frame_record.specs.declared.Answer.{Answer}
 use Rattle.frame_record.specs.declared.Answer.the-variants.{Panel, Rest, Read, Refused}
-use Rattle.frame_record.specs.declared.Found.{Found}
-use Rattle.frame_record.specs.declared.Found.the-variants.{At, Nothing}
+use Rattle.lookup.specs.declared.Found.{Found}
+use Rattle.lookup.specs.declared.Found.the-variants.{At, Nowhere}
 use Rattle.frame_record.specs.declared.Event.{Event}
 use Rattle.frame_record.specs.declared.Event.the-variants as E
 use Rattle.frame_record.specs.declared.Called.{Called}
@@ -57,7 +57,7 @@ readingOf p Late = reads.Late
 
 abbrev pub readAt : Frame → Found → Answer
 readAt f (At i) = Read (readingOf (f .phase) (entryAt (f .entries) i .standing))
-readAt f Nothing = Refused R.Who
+readAt f Nowhere = Refused R.Who
 
 -- "PHASE if idle; WHO if not in the table"
 unfoldable pub readOf : Frame → ℕ → Answer

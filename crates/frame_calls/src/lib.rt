@@ -2,13 +2,13 @@
 use frame_record::Answer;
 use frame_record::Called;
 use frame_record::Event;
-use frame_record::Found;
 use frame_record::Frame;
 use frame_record::Phase;
 use frame_record::Reading;
 use frame_record::Standing;
 use frame_reports::give_back;
 use frame_reports::span_end;
+use lookup::Found;
 use table::refusal::Refusal;
 ghost use mathlib.Core.Path.{_≡_};
 ghost use Rattle.frame_record.specs.Answers.{done};
@@ -112,7 +112,7 @@ pub fn read(f: Frame, id: u8) -> Answer
             let s = e.standing;
             return Answer::Read(reading_of(phase, s));
         }
-        Found::Nothing => {
+        Found::Nowhere => {
             return Answer::Refused(Refusal::Who);
         }
     }

@@ -28,7 +28,7 @@ use Rattle.frame_record.specs.declared.Standing.the-variants.{Waiting, Out, Hel
 use Rattle.frame_record.specs.declared.Entry.{Entry}
 use Rattle.frame_record.specs.declared.Frame.{Frame}
 use Rattle.frame_record.specs.declared.Event.the-variants as E
-use Rattle.frame_record.proofs.Laws.{first-found}
+use Rattle.lookup.proofs.Lookup.{first-found}
 use Rattle.frame_begin.proofs.Passed.{Passed}
 use Rattle.frame_record.proofs.Sound.{open-parts}
 use Rattle.frame_promises.proofs.Reached.{Fine, moved-here, moved-other, moved-id, moved-away, entry-at, place-inside, has-id}
@@ -230,7 +230,7 @@ module _ (number : ℕ) (t : JobTable) (xs : List plan.Step) (p : Passed t xs) w
   es = entriesOf (t .jobs) xs N
 
   abbrev order : List ℕ
-  order = placesOf es xs N
+  order = placesOf (t .jobs) xs N
 
   -- the plan's step of a job is found by its id
   sends : (k : ℕ) → k < N → awayIn xs N ((getD xs k noStep) .id) ≡ (getD xs k noStep) .away

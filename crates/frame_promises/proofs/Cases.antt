@@ -33,12 +33,13 @@ use Rattle.frame_record.specs.declared.Standing.{Standing}
 use Rattle.frame_record.specs.declared.Standing.the-variants.{Waiting, Out, Held, Late}
 use Rattle.frame_record.specs.declared.Frame.{Frame}
 use Rattle.frame_record.specs.declared.Answer.{Answer}
-use Rattle.frame_record.specs.declared.Found.{Found}
-use Rattle.frame_record.specs.declared.Found.the-variants.{At, Nothing}
+use Rattle.lookup.specs.declared.Found.{Found}
+use Rattle.lookup.specs.declared.Found.the-variants.{At, Nowhere}
 use Rattle.frame_record.specs.declared.Event.{Event}
 use Rattle.frame_record.specs.declared.Event.the-variants as E
 use Rattle.frame_record.specs.declared.Called.{Called}
-use Rattle.frame_record.proofs.Laws.{and-left, either, first-below}
+use Rattle.lookup.proofs.Lookup.{first-below}
+use Rattle.frame_record.proofs.Laws.{and-left, either}
 use Rattle.frame_begin.proofs.Passed.{Passed, passed}
 
 module _ (f : Frame) (Q : Called → Type 0) where
@@ -81,7 +82,7 @@ module _ (f : Frame) (Q : Called → Type 0) where
     unfolding whereIs
     back-to o id t v (At i) e =
         back-at o i (omega (arith, first-below entryId none (f .entries) id 0 (f .count) i e)) t v (entryAt (f .entries) i .standing) refl
-    back-to o id t v Nothing e = k .refuses R.Who
+    back-to o id t v Nowhere e = k .refuses R.Who
 
     back : (n id t : ℕ) (v : Float) → Q (backStep f n id t v)
     unfolding backStep

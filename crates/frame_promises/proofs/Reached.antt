@@ -12,26 +12,27 @@ use lib.Dec.{leb, ltb, eqb}
 use lib.Ieee.{Float}
 use Rattle.model.specs.declared.Job.{Job}
 use Rattle.model.specs.Positions.{noJob}
-use Rattle.table.specs.Tables.{JobTable}
+use Rattle.table.specs.Tables.{JobTable, jobId}
 use Rattle.plan.specs.declared.Step as plan
 use Rattle.plan.specs.Plans.{noStep}
 use Rattle.frame_record.specs.Finite.{finite?}
-use Rattle.frame_record.specs.Sound.{none, entryAt, placeAt, entryId, first, sound?, open?}
+use Rattle.lookup.specs.Lookup.{positionOf, indexed}
+use Rattle.frame_record.specs.Sound.{none, entryAt, placeAt, entryId, sound?, open?}
 use Rattle.frame_record.specs.Listed.{MayStand, planEntry, Begun, SoundIn}
 use Rattle.frame_record.specs.Answers.{idle}
 use Rattle.frame_record.specs.Sound.{panelPlace, panelEntry}
 use Rattle.frame_reports.specs.Reports.{judge, standing, moved}
 use Rattle.frame_calls.specs.Calls.{closed}
-use Rattle.frame_begin.specs.Begin.{entryOf, entriesOf, position, stepPlace, placesOf, begun}
+use Rattle.frame_begin.specs.Begin.{entryOf, entriesOf, stepPlace, placesOf, begun}
 use Rattle.frame_promises.specs.Call.{Call, calledOf, after, reached}
 use Rattle.frame_record.specs.declared.Phase.{Phase}
 use Rattle.frame_record.specs.declared.Standing.{Standing}
 use Rattle.frame_record.specs.declared.Standing.the-variants.{Waiting, Out, Held, Late}
 use Rattle.frame_record.specs.declared.Entry.{Entry}
 use Rattle.frame_record.specs.declared.Frame.{Frame}
-use Rattle.frame_record.specs.declared.Found.the-variants.{At}
+use Rattle.lookup.specs.declared.Found.the-variants.{At}
 use Rattle.frame_record.specs.declared.Called.{Called}
-use Rattle.frame_record.proofs.Laws.{first-below, first-has, first-some}
+use Rattle.lookup.proofs.Lookup.{first-below, first-has, first-some}
 use Rattle.frame_begin.proofs.Passed.{Passed, JobFor}
 use Rattle.frame_begin.proofs.Filled.{filled-at, filled-length}
 use Rattle.frame_record.proofs.Sound.{sound-made, open-phase, open-parts}
@@ -139,36 +140,33 @@ module _ (n : ℕ) (t : JobTable) (xs : List plan.Step) (p : Passed t xs) where
   es = entriesOf js xs count
 
   abbrev order : List ℕ
-  order = placesOf es xs count
+  order = placesOf js xs count
 
   pub entry-at : (i : ℕ) → i < count → entryAt es i ≡ entryOf xs count (getD js i noJob)
   unfolding entriesOf
   entry-at i h = filled-at none (λ (k : ℕ). entryOf xs count (getD js k noJob)) count i (p .good .few) h
 
-  order-at : (k : ℕ) → k < count → placeAt order k ≡ stepPlace es xs count k
+  order-at : (k : ℕ) → k < count → placeAt order k ≡ stepPlace js xs k
   unfolding placesOf
-  order-at k h = filled-at 0 (stepPlace es xs count) count k (p .good .few) h
+  order-at k h = filled-at 0 (stepPlace js xs) count k (p .good .few) h
 
   -- the k-th step's job is found where the order says
-  some-at : (k : ℕ) → k < count → (m : ℕ) × (first entryId none es ((getD xs k noStep) .id) 0 count ≡ At m)
-  some-at k h =
+  found-by : (k : ℕ) → k < count → (m : ℕ) → positionOf js ((getD xs k noStep) .id) ≡ At m → positionOf js ((getD xs k noStep) .id) ≡ At (placeAt order k)
+  found-by k h m e = e ∙ ap At (sym (order-at k h ∙ ap indexed e))
+
+  found-at : (k : ℕ) → k < count → positionOf js ((getD xs k noStep) .id) ≡ At (placeAt order k)
+  found-at k h =
       let j : JobFor js ((getD xs k noStep) .id) = p .named k (omega (arith, p .enough)) in
-      first-some entryId none es ((getD xs k noStep) .id) 0 count (j .at) (omega arith) (omega (arith, j .inside))
-      (ap entryId (entry-at (j .at) (j .inside)) ∙ j .same-id)
-
-  found-by :
-      (k : ℕ) → k < count → (m : ℕ) → first entryId none es ((getD xs k noStep) .id) 0 count ≡ At m →
-      first entryId none es ((getD xs k noStep) .id) 0 count ≡ At (placeAt order k)
-  found-by k h m e = e ∙ ap At (sym (order-at k h ∙ ap position e))
-
-  found-at : (k : ℕ) → k < count → first entryId none es ((getD xs k noStep) .id) 0 count ≡ At (placeAt order k)
-  found-at k h = let m = some-at k h in found-by k h (m .0) (m .1)
+      let m = first-some jobId noJob js ((getD xs k noStep) .id) 0 count (j .at) (omega arith) (omega (arith, j .inside)) (j .same-id) in
+      found-by k h (m .0) (m .1)
 
   pub place-inside : (k : ℕ) → k < count → placeAt order k < count
-  place-inside k h = omega (arith, first-below entryId none es ((getD xs k noStep) .id) 0 count (placeAt order k) (found-at k h))
+  place-inside k h = omega (arith, first-below jobId noJob js ((getD xs k noStep) .id) 0 count (placeAt order k) (found-at k h))
 
   pub has-id : (k : ℕ) → k < count → entryAt es (placeAt order k) .id ≡ (getD xs k noStep) .id
-  has-id k h = first-has entryId none es ((getD xs k noStep) .id) 0 count (placeAt order k) (found-at k h)
+  has-id k h =
+      ap entryId (entry-at (placeAt order k) (place-inside k h)) ∙
+      first-has jobId noJob js ((getD xs k noStep) .id) 0 count (placeAt order k) (found-at k h)
 
   same-step : (i k : ℕ) → i < k → k < count → placeAt order i ≡ placeAt order k → (getD xs i noStep) .id ≡ (getD xs k noStep) .id
   same-step i k h q e = sym (has-id i (omega arith)) ∙ ap (λ (m : ℕ). entryAt es m .id) e ∙ has-id k q

@@ -43,12 +43,13 @@ use Rattle.frame_record.specs.declared.Standing.the-variants as stands
 use Rattle.frame_record.specs.declared.Frame.{Frame}
 use Rattle.frame_record.specs.declared.Answer.{Answer}
 use Rattle.frame_record.specs.declared.Answer.the-variants.{Panel, Rest, Read}
-use Rattle.frame_record.specs.declared.Found.{Found}
-use Rattle.frame_record.specs.declared.Found.the-variants.{At, Nothing}
+use Rattle.lookup.specs.declared.Found.{Found}
+use Rattle.lookup.specs.declared.Found.the-variants.{At, Nowhere}
 use Rattle.frame_record.specs.declared.Event.{Event}
 use Rattle.frame_record.specs.declared.Event.the-variants as E
 use Rattle.frame_record.specs.declared.Called.{Called}
-use Rattle.frame_record.proofs.Laws.{false-true, first-below, first-has, first-some}
+use Rattle.lookup.proofs.Lookup.{first-below, first-has, first-some}
+use Rattle.frame_record.proofs.Laws.{false-true}
 use Rattle.frame_begin.proofs.Passed.{Passed, passed}
 use Rattle.frame_promises.proofs.Reached.{Fine}
 use Rattle.frame_promises.specs.History.{Report, Last, History, idle, opened, closed, done, refuse, begins, nexts, onClock, valued, spanEnds}
@@ -94,7 +95,7 @@ module _ (f : Frame) (fine : Fine f) where
   somewhere id i e =
       (omega (arith, first-below entryId S.none (f .entries) id 0 (f .count) i e), first-has entryId S.none (f .entries) id 0 (f .count) i e)
 
-  nowhere : (id : ℕ) → whereIs f id ≡ Nothing → (i : ℕ) → i < f .count → entryAt (f .entries) i .id ≡ id → ⊥
+  nowhere : (id : ℕ) → whereIs f id ≡ Nowhere → (i : ℕ) → i < f .count → entryAt (f .entries) i .id ≡ id → ⊥
   unfolding whereIs
   nowhere id e i h is =
       let m = first-some entryId S.none (f .entries) id 0 (f .count) i (omega arith) (omega arith) is in clash (cc (m .1))
@@ -124,7 +125,7 @@ module _ (f : Frame) (fine : Fine f) where
         let j = in-table (b .table .jobs) id i (omega (arith, h .0, a .counted)) (sym (a .jobs i (h .0)) ∙ h .1) in
         rw (j .1)
         (reading-is (used (b .out) id) (reportOf (b .reports) id) (entryAt (f .entries) i .standing) (rw (h .1) at (a .stands i (h .0))))
-    read-at id Nothing e =
+    read-at id Nowhere e =
         rw (not-in-table (b .table .jobs) id
         (λ i h is. nowhere id e i (omega (arith, h, a .counted)) (a .jobs i (omega (arith, h, a .counted)) ∙ is)))
 
@@ -246,7 +247,7 @@ module _ (f : Frame) (fine : Fine f) where
       back-to (At i) e =
           let w = somewhere id i e in
           back-at i (w .0) (w .1) (reportOf (b .reports) id) (entryAt (f .entries) i .standing) (rw (w .1) at (a .stands i (w .0)))
-      back-to Nothing e = rw (a .strangers id (nowhere id e)) (refuses B R.Who)
+      back-to Nowhere e = rw (a .strangers id (nowhere id e)) (refuses B R.Who)
 
       back-fits : Fits B H (backStep f n id t v) (returns b n id t v)
       unfolding backStep
@@ -296,7 +297,7 @@ module _ (f : Frame) (fine : Fine f) where
         at (At i) q =
             let w = somewhere id i q in
             stood-silent (used (b .out) id) e (reportOf (b .reports) id) (entryAt (f .entries) i .standing) (rw (w .1) at (a .stands i (w .0)))
-        at Nothing q = absurd (false-true (sym (a .strangers id (nowhere id q)) ∙ e))
+        at Nowhere q = absurd (false-true (sym (a .strangers id (nowhere id q)) ∙ e))
 
   pub clear : (h : History) → Tells f h → Clear h
   clear idle a = tt

@@ -1,22 +1,20 @@
 -- Laws of the definitions that go position by position: a turn of each loop and its end; and what the tests of a record say.
 -- Assumes nothing.
-use mathlib.Core.Path.{_≡_, refl, sym, ap}
+use mathlib.Core.Path.{_≡_, refl, sym}
 use mathlib.Core.Logic.{inl, inr}
 use mathlib.Core.List.{List}
 use native.Mathlib.Nat.{eq-or-lt-of-le}
-use lib.ListN.{getD}
 use mathlib.Core.Bool.{Bool, true, false, cond, _&&_}
-use borrow.Author.Tests.{leb-true, ltb-true, eqb-true, eqb-false}
+use borrow.Author.Tests.{leb-true, ltb-true}
 use Prim.Native.Nat.{ℕ, zero, suc, _+_, _-_, _<_, _≤_}
 use native.Mathlib.Omega.{arith}
-use lib.Dec.{eqb}
-use Rattle.frame_record.specs.Sound.{none, placeAt, first, entryId, whereIs, okOrder, okAt, okFrom, okCounts, okDeadline, okBegun, okIn, phaseIn, isOpen}
+use Rattle.lookup.specs.declared.Found.the-variants.{At}
+use Rattle.lookup.proofs.Lookup.{first-below}
+use Rattle.frame_record.specs.Sound.{none, placeAt, entryId, whereIs, okOrder, okAt, okFrom, okCounts, okDeadline, okBegun, okIn, phaseIn, isOpen}
 use Rattle.frame_record.specs.Sound.{sound?, open?, begun?, ready?}
 use Rattle.frame_record.specs.declared.Phase.{Phase}
 use Rattle.frame_record.specs.declared.Phase.the-variants.{Idle, Open, Closed}
 use Rattle.frame_record.specs.declared.Frame.{Frame}
-use Rattle.frame_record.specs.declared.Found.{Found}
-use Rattle.frame_record.specs.declared.Found.the-variants.{At, Nothing}
 
 pub false-true : false ≡ true → ⊥
 false-true e = let z : _≡_ {A = ℕ} 0 1 = cc in omega arith
@@ -48,15 +46,6 @@ less k c h = omega arith
 over : (k c : ℕ) → c ≤ k → c - k ≡ 0
 over k c h = omega arith
 
-module _ {A : Type 0} (key : A → ℕ) (d : A) (xs : List A) (x k c : ℕ) where
-  pub first-turn : k < c → first key d xs x k (c - k) ≡ cond (eqb (key (getD xs k d)) x) (At k) (first key d xs x (k + 1) (c - (k + 1)))
-  unfolding first
-  first-turn h = rw (less k c h)
-
-  pub first-end : c ≤ k → first key d xs x k (c - k) ≡ Nothing
-  unfolding first
-  first-end h = rw (over k c h)
-
 module _ (f : Frame) (k c : ℕ) where
   pub ok-turn : k < c → okFrom f k (c - k) ≡ (okAt f k && okFrom f (k + 1) (c - (k + 1)))
   unfolding okFrom
@@ -65,94 +54,6 @@ module _ (f : Frame) (k c : ℕ) where
   pub ok-end : c ≤ k → okFrom f k (c - k) ≡ true
   unfolding okFrom
   ok-end h = rw (over k c h)
-
--- ---- what the first position is
-
-at-same : (k i : ℕ) → At k ≡ At i → k ≡ i
-at-same k i e = cc
-
-nothing-at : (i : ℕ) → Nothing ≡ At i → ⊥
-nothing-at i e = let z : _≡_ {A = ℕ} 0 1 = cc in omega arith
-
-below-step : (b : Bool) (k i n : ℕ) (rest : Found) → cond b (At k) rest ≡ At i → (rest ≡ At i → i < k + 1 + n) → i < k + suc n
-below-step true k i n rest e r = omega (arith, at-same k i e)
-below-step false k i n rest e r = omega (arith, r e)
-
-module _ {A : Type 0} (key : A → ℕ) (d : A) (xs : List A) (x : ℕ) where
-  -- it is below the end
-  pub first-below : (k n i : ℕ) → first key d xs x k n ≡ At i → i < k + n
-  unfolding first
-  first-below k zero i e = absurd (nothing-at i e)
-  first-below k (suc n) i e = below-step (eqb (key (getD xs k d)) x) k i n (first key d xs x (k + 1) n) e (first-below (k + 1) n i)
-
-  has-step :
-      (k i : ℕ) (rest : Found) (b : Bool) → eqb (key (getD xs k d)) x ≡ b → cond b (At k) rest ≡ At i → (rest ≡ At i → key (getD xs i d) ≡ x) →
-      key (getD xs i d) ≡ x
-  has-step k i rest true t e r = rw (← at-same k i e) (eqb-true _ _ t)
-  has-step k i rest false t e r = r e
-
-  -- and has the key
-  pub first-has : (k n i : ℕ) → first key d xs x k n ≡ At i → key (getD xs i d) ≡ x
-  unfolding first
-  first-has k zero i e = absurd (nothing-at i e)
-  first-has k (suc n) i e = has-step k i (first key d xs x (k + 1) n) (eqb (key (getD xs k d)) x) refl e (first-has (k + 1) n i)
-
-  -- no position before it has the key
-  least-step :
-      (k i m : ℕ) (rest : Found) (b : Bool) → eqb (key (getD xs k d)) x ≡ b → cond b (At k) rest ≡ At m →
-      (k < i → rest ≡ At m → key (getD xs i d) ≡ x → ⊥) → k ≤ i → i < m → key (getD xs i d) ≡ x → ⊥
-  least-step k i m rest true t e on p q is = omega (arith, at-same k m e)
-  least-step k i m rest false t e on p q is =
-      elim (eq-or-lt-of-le p) [
-        | inl same ↦ eqb-false (key (getD xs k d)) x t (rw same is)
-        | inr more ↦ on more e is
-      ]
-
-  pub first-least : (k n m : ℕ) → first key d xs x k n ≡ At m → (i : ℕ) → k ≤ i → i < m → key (getD xs i d) ≡ x → ⊥
-  unfolding first
-  first-least k zero m e i p q is = nothing-at m e
-  first-least k (suc n) m e i p q is =
-      least-step k i m (first key d xs x (k + 1) n) (eqb (key (getD xs k d)) x) refl e (λ more g. first-least (k + 1) n m g i (omega arith) q) p q is
-
-  -- a position that has the key, and none before it has, is the first
-  found-step :
-      (k m : ℕ) (rest : Found) (b : Bool) → eqb (key (getD xs k d)) x ≡ b → k ≤ m → key (getD xs m d) ≡ x →
-      ((i : ℕ) → k ≤ i → i < m → key (getD xs i d) ≡ x → ⊥) → (k < m → rest ≡ At m) → cond b (At k) rest ≡ At m
-  found-step k m rest true t p is none on =
-      elim (eq-or-lt-of-le p) [
-        | inl same ↦ ap At same
-        | inr more ↦ absurd (none k (omega arith) more (eqb-true _ _ t))
-      ]
-  found-step k m rest false t p is none on =
-      elim (eq-or-lt-of-le p) [
-        | inl same ↦ absurd (eqb-false (key (getD xs k d)) x t (rw same is))
-        | inr more ↦ on more
-      ]
-
-  pub first-found :
-      (k n m : ℕ) → k ≤ m → m < k + n → key (getD xs m d) ≡ x →
-      ((i : ℕ) → k ≤ i → i < m → key (getD xs i d) ≡ x → ⊥) → first key d xs x k n ≡ At m
-  unfolding first
-  first-found k zero m p q is none = absurd (omega arith)
-  first-found k (suc n) m p q is none =
-      found-step k m (first key d xs x (k + 1) n) (eqb (key (getD xs k d)) x) refl p is none
-      (λ more. first-found (k + 1) n m (omega arith) (omega arith) is (λ i a b. none i (omega arith) b))
-
-  -- where a position has the key, one is found
-  pub first-some : (k n i : ℕ) → k ≤ i → i < k + n → key (getD xs i d) ≡ x → (m : ℕ) × (first key d xs x k n ≡ At m)
-  unfolding first
-  first-some k zero i p q is = absurd (omega arith)
-  first-some k (suc n) i p q is = some-step (eqb (key (getD xs k d)) x) refl (λ more. first-some (k + 1) n i more (omega arith) is)
-    where
-      some-step :
-          (b : Bool) → eqb (key (getD xs k d)) x ≡ b → (k + 1 ≤ i → (m : ℕ) × (first key d xs x (k + 1) n ≡ At m)) →
-          (m : ℕ) × (cond b (At k) (first key d xs x (k + 1) n) ≡ At m)
-      some-step true t on = (k, refl)
-      some-step false t on =
-          elim (eq-or-lt-of-le p) [
-            | inl same ↦ absurd (eqb-false (key (getD xs k d)) x t (rw same is))
-            | inr more ↦ on (omega arith)
-          ]
 
 -- a job that stands in the table stands below its end
 pub where-below : (f : Frame) (id i : ℕ) → whereIs f id ≡ At i → i < f .count

@@ -11,7 +11,8 @@ use lib.Dec.{eqb, ltb}
 use lib.ListN.{length, getD, set, replicate, length-set, length-replicate, getD-replicate}
 use lib.Seq.{getD-set-same, getD-set-other}
 use borrow.Author.Tests.{eqb-true, eqb-false, lt-ltb, le-ltb}
-use Rattle.frame_record.specs.Sound.{none, entryAt, placeAt, entryId, itself, first, isAt, okId, okEntry, okOrder, okAt, okFrom}
+use Rattle.lookup.specs.Lookup.{first}
+use Rattle.frame_record.specs.Sound.{none, entryAt, placeAt, entryId, itself, isAt, okId, okEntry, okOrder, okAt, okFrom}
 use Rattle.frame_record.specs.declared.Frame.{Frame}
 use Rattle.frame_record.proofs.Laws.{false-true, ok-turn, ok-end}
 use Rattle.frame_record.proofs.Sound.{own-tells, own-made}

@@ -9,7 +9,8 @@ use borrow.Author.Tests.{leb-true, ltb-true, ltb-false, eqb-true, le-leb, lt-ltb
 use lib.ListN.{getD}
 use lib.Dec.{leb, ltb, eqb}
 use Rattle.table.specs.Limits.{mostJobs}
-use Rattle.frame_record.specs.Sound.{none, entryAt, placeAt, entryId, itself, first, isAt, okId, okStanding, okEntry, okOrder, okAt, okFrom, okCounts}
+use Rattle.lookup.specs.Lookup.{first}
+use Rattle.frame_record.specs.Sound.{none, entryAt, placeAt, entryId, itself, isAt, okId, okStanding, okEntry, okOrder, okAt, okFrom, okCounts}
 use Rattle.frame_record.specs.Sound.{okDeadline, okBegun, okIn, isOpen, sound?, open?}
 use Rattle.frame_record.specs.Listed.{MayStand, planEntry, Begun, SoundIn, SoundFrame}
 use Rattle.frame_record.specs.declared.Phase.{Phase}
@@ -17,15 +18,16 @@ use Rattle.frame_record.specs.declared.Phase.the-variants.{Idle, Open, C
 use Rattle.frame_record.specs.declared.Standing.{Standing}
 use Rattle.frame_record.specs.declared.Standing.the-variants.{Waiting, Out, Held, Late}
 use Rattle.frame_record.specs.declared.Frame.{Frame}
-use Rattle.frame_record.specs.declared.Found.{Found}
-use Rattle.frame_record.specs.declared.Found.the-variants.{At, Nothing}
-use Rattle.frame_record.proofs.Laws.{false-true, and-left, and-right, and-both, at-each, order-below, open-begun, first-least, first-found}
+use Rattle.lookup.specs.declared.Found.{Found}
+use Rattle.lookup.specs.declared.Found.the-variants.{At, Nowhere}
+use Rattle.lookup.proofs.Lookup.{first-least, first-found}
+use Rattle.frame_record.proofs.Laws.{false-true, and-left, and-right, and-both, at-each, order-below, open-begun}
 
 -- ---- no position before has the key
 
 is-at : (w : Found) (k : ℕ) → isAt w k ≡ true → w ≡ At k
 is-at (At i) k e = ap At (eqb-true i k e)
-is-at Nothing k e = absurd (false-true e)
+is-at Nowhere k e = absurd (false-true e)
 
 module _ {A : Type 0} (key : A → ℕ) (d : A) (xs : List A) (n k : ℕ) where
   abbrev Own : Bool

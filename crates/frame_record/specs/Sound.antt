@@ -13,8 +13,9 @@ use Rattle.frame_record.specs.declared.Standing.{Standing}
 use Rattle.frame_record.specs.declared.Standing.the-variants.{Waiting, Out, Held, Late}
 use Rattle.frame_record.specs.declared.Entry.{Entry}
 use Rattle.frame_record.specs.declared.Frame.{Frame}
-use Rattle.frame_record.specs.declared.Found.{Found}
-use Rattle.frame_record.specs.declared.Found.the-variants.{At, Nothing}
+use Rattle.lookup.specs.Lookup.{first}
+use Rattle.lookup.specs.declared.Found.{Found}
+use Rattle.lookup.specs.declared.Found.the-variants.{At, Nowhere}
 
 abbrev pub none : Entry
 none = record { id = 0; away = false; standing = Waiting }
@@ -25,12 +26,6 @@ entryAt es i = getD es i none
 
 abbrev pub placeAt : List ℕ → ℕ → ℕ
 placeAt order k = getD order k 0
-
--- the first of the n positions from k on where the key is x; `d` stands past the list's end
-module _ {A : Type 0} (key : A → ℕ) (d : A) (xs : List A) (x : ℕ) where
-  unfoldable pub first : ℕ → ℕ → Found
-  first k zero = Nothing
-  first k (suc n) = cond (eqb (key (getD xs k d)) x) (At k) (first (k + 1) n)
 
 abbrev pub entryId : Entry → ℕ
 entryId e = e .id
@@ -51,7 +46,7 @@ itself n = n
 
 abbrev pub isAt : Found → ℕ → Bool
 isAt (At i) k = eqb i k
-isAt Nothing k = false
+isAt Nowhere k = false
 
 -- of the first `count`, none before the k-th has its id
 unfoldable pub okId : List Entry → ℕ → ℕ → Bool

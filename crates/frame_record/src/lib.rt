@@ -1,5 +1,6 @@
 // The frame's record: what the panel's loop keeps of a frame, what a call answers, and the test that every call makes first.
 // An unsound record is refused PHASE by every call and stays as found.
+use lookup::Found;
 use table::Table;
 use table::refusal::Refusal;
 ghost use mathlib.Core.Path.{_≡_};
@@ -89,12 +90,6 @@ pub enum Event {
     },
     Close(u16),
     Read(u8),
-}
-
-// What a search for a job came to.
-pub enum Found {
-    At(usize),
-    Nothing,
 }
 
 // Whether x is a number: neither NaN nor infinite.
@@ -266,6 +261,6 @@ impl Frame {
             }
             i += 1;
         }
-        Found::Nothing
+        Found::Nowhere
     }
 }

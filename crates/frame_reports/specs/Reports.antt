@@ -13,8 +13,8 @@ use Rattle.frame_record.specs.declared.Standing.{Standing}
 use Rattle.frame_record.specs.declared.Standing.the-variants.{Waiting, Out, Held, Late}
 use Rattle.frame_record.specs.declared.Entry.{Entry}
 use Rattle.frame_record.specs.declared.Frame.{Frame}
-use Rattle.frame_record.specs.declared.Found.{Found}
-use Rattle.frame_record.specs.declared.Found.the-variants.{At, Nothing}
+use Rattle.lookup.specs.declared.Found.{Found}
+use Rattle.lookup.specs.declared.Found.the-variants.{At, Nowhere}
 use Rattle.frame_record.specs.declared.Called.{Called}
 
 -- "gets its value if time <= D, else is late"
@@ -67,7 +67,7 @@ backAt f at t v Late = refused R.Who f
 
 abbrev pub backTo : Frame → ℕ → Float → Found → Called
 backTo f t v (At i) = backAt f i t v (entryAt (f .entries) i .standing)
-backTo f t v Nothing = refused R.Who f
+backTo f t v Nowhere = refused R.Who f
 
 -- "PHASE unless open; NUMBER; CLOCK; WHO; VALUE"
 unfoldable pub backStep : Frame → ℕ → ℕ → ℕ → Float → Called

@@ -2,11 +2,11 @@
 use frame_record::Answer;
 use frame_record::Called;
 use frame_record::Entry;
-use frame_record::Found;
 use frame_record::Frame;
 use frame_record::Sample;
 use frame_record::Standing;
 use frame_record::finite;
+use lookup::Found;
 use table::refusal::Refusal;
 ghost use mathlib.Core.Path.{_≡_};
 ghost use Prim.Native.Nat.{_<_};
@@ -127,7 +127,7 @@ pub fn give_back(f: Frame, number: u32, id: u8, time: u16, value: f32) -> Called
             let s = e.standing;
             return back_at(f, i, time, value, s);
         }
-        Found::Nothing => {
+        Found::Nowhere => {
             return f.refuse(Refusal::Who);
         }
     }

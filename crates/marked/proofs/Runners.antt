@@ -17,7 +17,8 @@ use Rattle.frame_record.specs.declared.Answer.{Answer}
 use Rattle.frame_record.specs.declared.Answer.the-variants.{Done, Panel, Read}
 use Rattle.frame_record.specs.declared.Event.{Event}
 use Rattle.frame_record.specs.declared.Event.the-variants as E
-use Rattle.frame_record.specs.Sound.{first, sound?, open?, begun?, ready?, okBegun, okFrom, okAt, okOrder, okId}
+use Rattle.lookup.specs.Lookup.{first}
+use Rattle.frame_record.specs.Sound.{sound?, open?, begun?, ready?, okBegun, okFrom, okAt, okOrder, okId}
 use Rattle.frame_record.specs.Sound.{whereIs}
 use Rattle.frame_record.specs.Answers.{idle}
 use Rattle.frame_reports.specs.Reports.{spanStep, backStep}

@@ -39,9 +39,10 @@ use Rattle.frame_record.specs.declared.Frame.{Frame}
 use Rattle.frame_record.specs.declared.Phase.the-variants.{Open}
 use Rattle.frame_record.specs.declared.Answer.the-variants.{Done, Refused}
 use Rattle.frame_record.specs.declared.Called.{Called}
-use Rattle.frame_record.specs.declared.Found.{Found}
-use Rattle.frame_record.specs.declared.Found.the-variants.{At, Nothing}
-use Rattle.frame_record.specs.Sound.{first, whereIs, sound?, okBegun}
+use Rattle.lookup.specs.declared.Found.{Found}
+use Rattle.lookup.specs.declared.Found.the-variants.{At, Nowhere}
+use Rattle.lookup.specs.Lookup.{first}
+use Rattle.frame_record.specs.Sound.{whereIs, sound?, okBegun}
 use Rattle.frame_record.specs.Answers.{idle}
 use Rattle.frame_record.proofs as frame-record
 use Rattle.settled.specs.Settled.{RulesOut}
@@ -287,6 +288,6 @@ single = record { phase = Open; number = 0; clock = 0; deadline = 1; count = 1; 
 abbrev PlaceNot : ℕ → Found → Type 0
 PlaceNot id r = RulesOut frame-record.Frame.place_of.ended frame-record.Frame.place_of.Reads.Learnt tt (single, (id, tt)) r
 
-pub place-of : PlaceNot 0 Nothing × PlaceNot 1 (At 0)
+pub place-of : PlaceNot 0 Nowhere × PlaceNot 1 (At 0)
 unfolding whereIs first
 place-of = ((λ m e. clash (cc)), (λ m e. clash (cc)))

@@ -2,7 +2,7 @@
 use mathlib.Core.Path.{_∙_, sym}
 use native.Mathlib.Omega.{arith}
 use Rattle.frame_begin.specs.Begin.{awayIn}
-use Rattle.frame_record.proofs.Laws.{first-below}
+use Rattle.lookup.proofs.Lookup.{first-below}
 use Rattle.frame_begin.proofs.Passed.{step-in}
 use borrow.Author.Needs.{needs}
 use Rattle.frame_begin.proofs.away_in.Statement.{statement}

@@ -6,9 +6,9 @@ use native.Mathlib.Nat.{sub-zero}
 use borrow.Author.Needs.{needs}
 use borrow.Author.Tests.{eq-eqb, ne-eqb}
 use Rattle.plan.specs.Plans.{stepId, noStep, readPlan}
-use Rattle.frame_record.specs.Sound.{first}
+use Rattle.lookup.specs.Lookup.{first}
 use Rattle.frame_begin.specs.Begin.{stepsIn}
-use Rattle.frame_record.proofs.Laws.{first-turn, first-end}
+use Rattle.lookup.proofs.Lookup.{first-turn, first-end}
 use Rattle.frame_begin.proofs.Passed.{step-in}
 use Rattle.frame_begin.proofs.step_of.Statement.{statement}
 use Rattle.frame_begin.proofs.step_of.Tie as tie

@@ -4,8 +4,9 @@ use Prim.Native.Nat.{_≤_, _-_}
 use native.Mathlib.Nat.{sub-zero}
 use borrow.Author.Needs.{needs}
 use borrow.Author.Tests.{eq-eqb, ne-eqb}
-use Rattle.frame_record.specs.Sound.{none, entryId, first, whereIs}
-use Rattle.frame_record.proofs.Laws.{first-turn, first-end}
+use Rattle.lookup.specs.Lookup.{first}
+use Rattle.frame_record.specs.Sound.{none, entryId, whereIs}
+use Rattle.lookup.proofs.Lookup.{first-turn, first-end}
 use Rattle.frame_record.proofs.Frame.place_of.Statement.{statement}
 use Rattle.frame_record.proofs.Frame.place_of.Tie as tie
 
