@@ -82,3 +82,16 @@ then out at w v h a b =
       place = simp length-append (omega (arith, a .place, b .place));
       area = rw (b .area, a .area, a .place) (sym (written-append out at w v h));
     }
+
+-- two words, where there is room for both: room for the first, then for the second, and both stand one after the other
+module _ (out : List ℕ) (at : ℕ) (w v : List ℕ) (room : at + length (w ++ v) ≤ length out) where
+  pub room-first : at + length w ≤ length out
+  room-first = omega (arith, length-append w v)
+
+  pub room-next : {mid : List ℕ} {p : ℕ} → Wrote out at w mid p → p + length v ≤ length mid
+  room-next {mid} {p} a =
+      let size : length mid ≡ length out = rw (a .area) (written-length out at w room-first) in
+      omega (arith, a .place, length-append w v)
+
+  pub both : {mid end : List ℕ} {p q : ℕ} → Wrote out at w mid p → Wrote mid p v end q → Wrote out at (w ++ v) end q
+  both = then out at w v (omega (arith, room-first))

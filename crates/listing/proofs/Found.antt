@@ -49,7 +49,9 @@ pub found-again :
     (js : List Job) → Pairwise (λ (i j : Job). ¬ (i .id ≡ j .id)) js →
     (cs xs : List Chosen) → Choice js cs → List·Permᴰ cs xs → chosenFor js (stepsFor xs) ≡ xs
 found-again js distinct cs xs c p =
-    same xs (all-perm (Own js) p (all-of-map (λ (x : Chosen). x .job) (λ (j : Job). jobWith js (j .id) ≡ j) cs (subst (All _) (sym (c .each)) (with-self js distinct))))
+    let own : All (Own js) cs =
+    all-of-map (λ (x : Chosen). x .job) (λ (j : Job). jobWith js (j .id) ≡ j) cs (subst (All _) (sym (c .each)) (with-self js distinct)) in
+    same xs (all-perm (Own js) p own)
   where
     same : (ys : List Chosen) → All (Own js) ys → chosenFor js (stepsFor ys) ≡ ys
     same [] a = refl

@@ -24,9 +24,11 @@ enum-known-verdict c = search needs
 
 put-refused-requires : tie.Need-put-refused-requires
 put-refused-requires c κs =
-    let s = c .before .before .before .before .before .before .before .before .before in
-    let e = refused-text (now (s .args .table)) _ (read-refused _ _ (c .before .before .before .before .before .read-table .ensures) _ (c .before .before .verdict .given .1)) in
-    omega (arith, ap length e, text-short (now (s .args .table)) (λ i. omega (arith, c .before .before .before .before .before .before .before .before .shared-slice-known .given i)))
+    let p = c .before .before .before .before .before in
+    let table = now (p .before .before .before .before .args .table) in
+    let e = refused-text table _ (read-refused _ _ (p .read-table .ensures) _ (c .before .before .verdict .given .1)) in
+    let known = p .before .before .before .shared-slice-known in
+    omega (arith, ap length e, text-short table (λ i. omega (arith, known .given i)))
 
 enum-told : tie.Need-enum-told
 enum-told c = search needs

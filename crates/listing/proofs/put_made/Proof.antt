@@ -1,4 +1,5 @@
 -- `listing::put_made` meets its contract: the text is the one of the arm that was taken. Assumes nothing.
+use native.Mathlib.Omega.{arith}
 use Rattle.listing.specs.Found.{madeText}
 use borrow.Author.Needs.{needs}
 use Rattle.listing.proofs.put_made.Statement.{statement}
@@ -11,7 +12,7 @@ put-plan-requires c κs =
 
 put-refused-requires : tie.Need-put-refused-requires
 unfolding madeText
-put-refused-requires c κs = rw (c .before .if1 .left) at (c .before .before .before .before .pre .2)
+put-refused-requires c κs = omega (arith, rw (c .before .if1 .left) at (c .before .before .before .before .pre .2))
 
 same-length : tie.Need-same-length
 same-length c = search needs

@@ -1,10 +1,10 @@
--- `listing::put_field` meets its contract: the word, and the number behind it. Assumes nothing.
+-- `lines::put_field` meets its contract: the word, and the number behind it. Assumes nothing.
 use denote.Ref.{now}
 use borrow.Author.Needs.{needs}
 use Rattle.bytes.specs.Decimals.{decimal}
-use Rattle.listing.proofs.Lines.{room-first, room-next, both}
-use Rattle.listing.proofs.put_field.Statement.{statement}
-use Rattle.listing.proofs.put_field.Tie as tie
+use Rattle.bytes.proofs.Writing.{room-first, room-next, both}
+use Rattle.lines.proofs.put_field.Statement.{statement}
+use Rattle.lines.proofs.put_field.Tie as tie
 
 put-requires : tie.Need-put-requires
 put-requires c κs =
@@ -14,7 +14,8 @@ put-requires c κs =
 put-number-requires : tie.Need-put-number-requires
 put-number-requires c κs =
     let start = c .before .before .before .before .before .before .before in
-    room-next (now (start .args .out)) (start .args .at) (now (start .args .word)) (decimal (start .args .n)) (start .pre) (c .before .before .before .put .ensures)
+    room-next (now (start .args .out)) (start .args .at) (now (start .args .word)) (decimal (start .args .n)) (start .pre)
+    (c .before .before .before .put .ensures)
 
 same-length : tie.Need-same-length
 same-length c = search needs

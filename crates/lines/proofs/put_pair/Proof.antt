@@ -1,14 +1,15 @@
--- `listing::put_pair` meets its contract: two fields, and the line's end. Assumes nothing.
+-- `lines::put_pair` meets its contract: two fields, and the line's end. Assumes nothing.
 use mathlib.Core.List.{List, _++_}
 use Prim.Native.Nat.{ℕ, _+_, _≤_}
 use denote.Ref.{now}
 use lib.ListN.{length}
 use borrow.Author.Needs.{needs}
 use Rattle.bytes.specs.Decimals.{decimal}
-use Rattle.listing.specs.Listing.{newline}
-use Rattle.listing.proofs.Lines.{room-first, room-next, both, pair-parts}
-use Rattle.listing.proofs.put_pair.Statement.{statement}
-use Rattle.listing.proofs.put_pair.Tie as tie
+use Rattle.lines.specs.Lines.{newline}
+use Rattle.bytes.proofs.Writing.{room-first, room-next, both}
+use Rattle.lines.proofs.Lines.{pair-parts}
+use Rattle.lines.proofs.put_pair.Statement.{statement}
+use Rattle.lines.proofs.put_pair.Tie as tie
 
 -- the parts of the line, and the room for them
 module _ (c : tie.Start) where
@@ -42,21 +43,23 @@ slice-aggregate-put c = search needs
 
 put-requires : tie.Need-put-requires
 put-requires c κs =
-    let start = c .before .before .before .before .before .before .before .before .before .before .before .before .before in
+    let p = c .before .before .before .before .before .before .before .before in
+    let start = p .before .before .before .before .before in
     room-next (out start) (start .args .at) (one start ++ two start) newline (room start)
-    (both (out start) (start .args .at) (one start) (two start) (room-two start)
-    (c .before .before .before .before .before .before .before .before .put-field .ensures) (c .before .before .before .before .put-field2 .ensures))
+    (both (out start) (start .args .at) (one start) (two start) (room-two start) (p .put-field .ensures)
+    (c .before .before .before .before .put-field2 .ensures))
 
 same-length : tie.Need-same-length
 same-length c = search needs
 
 returns : tie.Need-returns
 returns c =
-    let start = c .before .before .before .before .before .before .before .before .before .before .before .before .before .before .before .before in
+    let q = c .before .before .before .before .before .before .before in
+    let p = q .before .before .before .before in
+    let start = p .before .before .before .before .before in
     rw pair-parts
     (both (out start) (start .args .at) (one start ++ two start) newline (room start)
-    (both (out start) (start .args .at) (one start) (two start) (room-two start)
-    (c .before .before .before .before .before .before .before .before .before .before .before .put-field .ensures) (c .before .before .before .before .before .before .before .put-field2 .ensures))
+    (both (out start) (start .args .at) (one start) (two start) (room-two start) (p .put-field .ensures) (q .put-field2 .ensures))
     (c .before .before .put .ensures))
 
 pub put-pair-spec : {M : Type 1} → statement M
