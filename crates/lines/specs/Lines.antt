@@ -32,3 +32,7 @@ placeText (place ∷ rest) = atWord ++ decimal place
 
 unfoldable pub refusedText : List ℕ → List ℕ
 refusedText says = refusedWord ++ decimal (getD says 0 0) ++ placeText (drop 1 says) ++ newline
+
+-- How much room every such line finds: 8 bytes of the word, 4 of ` at `, the line's end, and 20 digits for each of two numbers of eight bytes.
+abbrev pub refusedRoom : ℕ
+refusedRoom = 53

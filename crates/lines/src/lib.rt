@@ -8,7 +8,7 @@ ghost use lib.ListN.{length};
 ghost use Rattle.table.specs.Refusals.{refusalSays};
 ghost use Rattle.bytes.specs.Decimals.{decimal};
 ghost use Rattle.bytes.specs.Writing.{Wrote};
-ghost use Rattle.lines.specs.Lines.{pairLine, refusedText};
+ghost use Rattle.lines.specs.Lines.{pairLine, refusedText, refusedRoom};
 
 // Writes a word and a number behind it, and returns the place after them.
 pub fn put_field(out: &mut [u8], at: usize, word: &[u8], n: usize) -> usize
@@ -29,9 +29,9 @@ pub fn put_pair(out: &mut [u8], at: usize, first: &[u8], a: usize, second: &[u8]
     bytes::put(out, end, b"\n")
 }
 
-// Writes the line of a refusal, its number and its place if it has one, and returns the place after it.
+// Writes the line of a refusal, its number and its place if it has one, and returns the place after it. Asks for room for every such line.
 pub fn put_refused(out: &mut [u8], at: usize, f: Refusal) -> usize
-    requires { ⌜ at + length (refusedText (refusalSays f)) ≤ length (now out) ⌝ }
+    requires { ⌜ at + refusedRoom ≤ length (now out) ⌝ }
     ensures { λ r. ⌜ Wrote (now (out .entry)) at (refusedText (refusalSays f)) (now (out .exit)) r ⌝ }
 {
     let said = refusal::numbers_of(f);

@@ -17,6 +17,7 @@ ghost use Rattle.table.specs.Limits.{mostJobs};
 ghost use Rattle.table.specs.Tables.{jobTable};
 ghost use Rattle.bytes.specs.Decimals.{decimal};
 ghost use Rattle.bytes.specs.Writing.{Wrote};
+ghost use Rattle.lines.specs.Lines.{refusedRoom};
 ghost use Rattle.listing.specs.Found.{jobWith, placed, stepLines, draftText, madeText};
 ghost use Rattle.listing.specs.Listing.{choiceWord, jobLine, Lists};
 
@@ -113,6 +114,7 @@ fn put_plan(out: &mut [u8], t: Table, draft: Draft) -> usize
 // The plan that was found, or NONE.
 fn put_made(out: &mut [u8], t: Table, made: Drafted) -> usize
     requires { ⌜ (made .draft .plan .count ≤ mostJobs) × (t .count ≤ mostJobs) × (length (madeText t made) ≤ length (now out)) ⌝ }
+    requires { ⌜ refusedRoom ≤ length (now out) ⌝ }
     ensures { λ r. ⌜ Wrote (now (out .entry)) 0 (madeText t made) (now (out .exit)) r ⌝ }
 {
     let draft = made.draft;

@@ -23,12 +23,7 @@ enum-known-verdict : tie.Need-enum-known-verdict
 enum-known-verdict c = search needs
 
 put-refused-requires : tie.Need-put-refused-requires
-put-refused-requires c κs =
-    let p = c .before .before .before .before .before in
-    let table = now (p .before .before .before .before .args .table) in
-    let e = refused-text table _ (read-refused _ _ (p .read-table .ensures) _ (c .before .before .verdict .given .1)) in
-    let known = p .before .before .before .shared-slice-known in
-    omega (arith, ap length e, text-short table (λ i. omega (arith, known .given i)))
+put-refused-requires c κs = search needs
 
 enum-told : tie.Need-enum-told
 enum-told c = search needs
@@ -45,7 +40,7 @@ put-made-requires c κs =
     let e = made-text (now (s .args .table)) _ w n _ (c .free-plan .ensures) in
     let known = c .before .before .before .before .before .before .before .before .shared-slice-known in
     let short = text-short (now (s .args .table)) (λ i. omega (arith, known .given i)) in
-    (free-few _ (w .sound) _ (c .free-plan .ensures), w .sound .few, omega (arith, ap length e, short))
+    ((free-few _ (w .sound) _ (c .free-plan .ensures), w .sound .few, omega (arith, ap length e, short)), search needs)
 
 same-length : tie.Need-same-length
 same-length c = search needs
