@@ -27,7 +27,7 @@ whole-room s said e n p = omega (arith, s .pre, refused-fits (refusalSays (s .ar
 
 -- and for its parts, by whether it has a place
 module _ (s : tie.Start) (said : Said) (e : said ≡ saidBy (refusalSays (s .args .f)))
-  (room : s .args .at + length (refusedText (refusalSays (s .args .f))) ≤ length (now (s .args .out))) where
+    (room : s .args .at + length (refusedText (refusalSays (s .args .f))) ≤ length (now (s .args .out))) where
   placed-room : said .placed ≡ true → s .args .at + length (pairLine refusedWord (said .number) atWord (said .place)) ≤ length (now (s .args .out))
   placed-room h = omega (arith, room, ap length (refused-placed (refusalSays (s .args .f)) said e h))
 
@@ -68,7 +68,8 @@ put-field-requires c κs =
     let s = c .before .before .before .before .before in
     let said = c .before .before .before .numbers-of in
     let room = whole-room s (said .result) (said .ensures) (search needs) (search needs) in
-    room-first (now (s .args .out)) (s .args .at) (field (said .result)) newline (bare-room s (said .result) (said .ensures) room (c .before .before .if1 .left))
+    room-first (now (s .args .out)) (s .args .at) (field (said .result)) newline
+    (bare-room s (said .result) (said .ensures) room (c .before .before .if1 .left))
 
 slice-aggregate-put : tie.Need-slice-aggregate-put
 slice-aggregate-put c = search needs
