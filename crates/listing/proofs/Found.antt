@@ -46,7 +46,8 @@ pub found-again :
     (js : List Job) → Distinct jobId js →
     (cs xs : List Chosen) → Choice js cs → List·Permᴰ cs xs → chosenFor js (stepsFor xs) ≡ xs
 found-again js distinct cs xs c p =
-    let own : All (Own js) cs = all-of-map (λ (x : Chosen). x .job) (λ (j : Job). jobWith js (j .id) ≡ j) cs (subst (All _) (sym (c .each)) (with-self js distinct)) in
+    let own : All (Own js) cs =
+    all-of-map (λ (x : Chosen). x .job) (λ (j : Job). jobWith js (j .id) ≡ j) cs (subst (All _) (sym (c .each)) (with-self js distinct)) in
     same xs (all-perm (Own js) p own)
   where
     same : (ys : List Chosen) → All (Own js) ys → chosenFor js (stepsFor ys) ≡ ys

@@ -16,6 +16,7 @@ use Rattle.model.proofs.Lists.{all-map, all-zip, all-of-map}
 use Rattle.model.proofs.Permutations.{all-perm}
 use Rattle.model.proofs.PlanOrder.{perm-plan}
 use Rattle.model.proofs.Bounds.{fits-last}
+use Rattle.model.proofs.Workable.{fits-sum}
 use Rattle.model.proofs.Free.{free-best}
 use Rattle.table.specs.declared.refusal.Refusal.the-variants.{None}
 use Rattle.table.specs.Limits.{mostJobs}
@@ -25,18 +26,14 @@ use Rattle.table.proofs.Accepted.{accepted-good}
 use Rattle.planner.proofs.Orders.{free-many}
 use Rattle.bytes.specs.Decimals.{decimal}
 use Rattle.bytes.proofs.Decimals.{few-digits}
-use Rattle.listing.specs.Listing.{frameWord, jobsWord, busyWord, lastWord, choiceWord, jobLine, pairLine, jobLines, planText, refusedText, foundText}
+use Rattle.lines.specs.Lines.{refusedText}
+use Rattle.lines.proofs.Lines.{pair-length}
+use Rattle.listing.specs.Listing.{frameWord, jobsWord, busyWord, lastWord, choiceWord, jobLine, jobLines, planText, foundText}
 use Rattle.listing.specs.Listing.{outcomeText, textOf, roomForText}
 use Rattle.faults.specs.Faults.{Byte}
 use Rattle.faults.proofs.Tables.{table-is}
 use Rattle.faults.proofs.Numbers.{table-near}
 use Rattle.listing.proofs.Places.{accepted-ids}
-
-pair-length :
-    (first : List ℕ) (a : ℕ) (second : List ℕ) (b : ℕ) →
-    length (pairLine first a second b) ≡ length first + length (decimal a) + length second + length (decimal b) + 1
-unfolding pairLine
-pair-length first a second b = simp length-append
 
 choice-length : (away : Bool) → length (choiceWord away) ≡ 6
 choice-length true = refl
@@ -73,17 +70,13 @@ laid-all : (P : Chosen → Type 0) (t : ℕ) (xs : List Chosen) → All P xs →
 laid-all P t [] a = tt
 laid-all P t (x ∷ xs) a = (a .0, laid-all P (t + span x) xs (a .1))
 
-busy-by : (D t : ℕ) (xs : List Chosen) → t ≤ D → Fits D t xs → t + busy xs ≤ D
-busy-by D t [] h f = omega arith
-busy-by D t (x ∷ xs) h f = omega (arith, busy-by D (t + span x) xs (omega (arith, f .0)) (f .1))
-
 plan-short :
     (t : JobTable) (xs : List Chosen) → t .deadline ≤ 4000 → length (t .jobs) ≤ mostJobs → length xs ≡ length (t .jobs) →
     All (λ (x : Chosen). x .job .id < 256) xs → Fits (t .deadline) 0 xs → length (planText t xs) ≤ roomForText
 unfolding planText
 plan-short t xs D few many ids fits =
     let by : lastFrom 0 xs ≤ t .deadline = fits-last (t .deadline) 0 xs .0 fits in
-    let busy-small = busy-by (t .deadline) 0 xs (omega arith) fits in
+    let busy-small = fits-sum (t .deadline) 0 xs (omega arith) fits in
     let small : All Small (laid 0 xs) =
     all-zip (λ (p : Placed). p .what .job .id < 256) (λ (p : Placed). finish p ≤ 4000) (laid 0 xs) (laid-all (λ (x : Chosen). x .job .id < 256) 0 xs ids)
     (all-map (λ (p : Placed) (h : finish p ≤ t .deadline). omega arith) (laid 0 xs) fits) in
@@ -114,7 +107,8 @@ all-bytes (b ∷ s) h = (h 0, all-bytes s (λ i. h (suc i)))
 
 module _ (s : List ℕ) (bytes : (i : ℕ) → getD s i 0 < 256) where
   found-short :
-      (t : JobTable) → readTable s ≡ accepted t → (o : Option (List Chosen)) → free mostJobs (t .deadline) (t .jobs) ≡ o → length (foundText t o) ≤ roomForText
+      (t : JobTable) → readTable s ≡ accepted t → (o : Option (List Chosen)) → free mostJobs (t .deadline) (t .jobs) ≡ o →
+      length (foundText t o) ≤ roomForText
   found-short t e none q = none-short
   found-short t e (some xs) q =
       let good = accepted-good s t e in

@@ -31,7 +31,9 @@ use Rattle.bytes.specs.Writing.{Wrote}
 use Rattle.bytes.proofs.Writing.{written-front}
 use Rattle.listing.specs.declared.Listed.{Listed}
 use Rattle.listing.specs.declared.Listed.the-variants.{Text, NoRoom}
-use Rattle.listing.specs.Listing.{firstLine, jobLines, lastLine, planText, refusedText, foundText, outcomeText, textOf, roomForText, listedSays, Lists, no-room, text-written}
+use Rattle.lines.specs.Lines.{refusedText}
+use Rattle.listing.specs.Listing.{firstLine, jobLines, lastLine, planText, foundText, outcomeText, textOf, roomForText, listedSays}
+use Rattle.listing.specs.Listing.{Lists, no-room, text-written}
 use Rattle.listing.specs.Found.{chosenFor, draftText, madeText}
 use Rattle.listing.proofs.Found.{found-again}
 
@@ -40,7 +42,8 @@ unfolding textOf
 refused-text s f e = ap outcomeText (sym e)
 
 -- the table that is read has as many jobs as it counts
-pub read-counted : (s : List ℕ) (r : TableRead) → r ≡ tableRead (readTable s) → r .verdict ≡ Whole → length (jobTable (r .table) .jobs) ≡ r .table .count
+pub read-counted :
+    (s : List ℕ) (r : TableRead) → r ≡ tableRead (readTable s) → r .verdict ≡ Whole → length (jobTable (r .table) .jobs) ≡ r .table .count
 read-counted s r e h = step (readTable s) (sym (ap (λ (x : TableRead). x .verdict) e) ∙ h) e
   where
     step : (o : Outcome JobTable) → tableRead o .verdict ≡ Whole → r ≡ tableRead o → length (jobTable (r .table) .jobs) ≡ r .table .count
@@ -55,9 +58,10 @@ module _ (s : List ℕ) (u : Table) (w : WholeRead s u) (counted : length (jobTa
       let good = w .sound .good in
       let b = free-best mostJobs (jobTable u .jobs) (good .few) (u .deadline) xs q in
       let p : List·Permᴰ (b .0) xs = subst (List·Permᴰ (b .0)) (sym (b .2)) (Permᴰ·symm (perm-plan (b .0) (b .1 .choice .allowed))) in
-      let again : chosenFor (jobTable u .jobs) (stepsOf (draftOf xs .plan)) ≡ xs =
+      let found = chosenFor (jobTable u .jobs) (stepsOf (draftOf xs .plan)) in
+      let again : found ≡ xs =
       ap (chosenFor (jobTable u .jobs)) (steps-of-plan (stepsFor xs)) ∙ found-again (jobTable u .jobs) (good .distinct) (b .0) xs (b .1 .choice) p in
-      ap (λ (n : ℕ). firstLine (u .deadline) n ++ jobLines (laid 0 (chosenFor (jobTable u .jobs) (stepsOf (draftOf xs .plan)))) ++ lastLine (busy xs) (lastFrom 0 xs)) (sym counted) ∙
+      ap (λ (n : ℕ). firstLine (u .deadline) n ++ jobLines (laid 0 found) ++ lastLine (busy xs) (lastFrom 0 xs)) (sym counted) ∙
       ap (λ (ys : List Chosen). firstLine (u .deadline) (length (jobTable u .jobs)) ++ jobLines (laid 0 ys) ++ lastLine (busy xs) (lastFrom 0 xs)) again
 
   pub made-text : (made : Drafted) → made ≡ draftedOf (free mostJobs (u .deadline) (jobTable u .jobs)) → madeText u made ≡ textOf s
@@ -69,7 +73,8 @@ module _ (s : List ℕ) (u : Table) (w : WholeRead s u) (counted : length (jobTa
       step (some xs) q = plan-text xs q
 
 -- the text written at the front is what is promised
-pub lists-text : (s before after w : List ℕ) (n : ℕ) → roomForText ≤ length before → w ≡ textOf s → Wrote before 0 w after n → Lists s before (Text n) after
+pub lists-text :
+    (s before after w : List ℕ) (n : ℕ) → roomForText ≤ length before → w ≡ textOf s → Wrote before 0 w after n → Lists s before (Text n) after
 lists-text s before after w n room e wrote =
     let size : n ≡ length (textOf s) = omega (arith, wrote .place, ap length e) in
     text-written room (rw size) (rw e at (wrote .area ∙ written-front before w))

@@ -1,4 +1,4 @@
--- What the lister's code goes by: the job of an id in the table, a plan's steps with their jobs, a refusal's numbers, and the text of what was made.
+-- What the lister's code goes by: the job of an id in the table, a plan's steps with their jobs, and the text of what was made.
 -- Assumes nothing.
 use mathlib.Core.Bool.{Bool, cond}
 use mathlib.Core.List.{List, _++_, map}
@@ -14,11 +14,13 @@ use Rattle.table.specs.declared.refusal.Refusal.the-variants.{None}
 use Rattle.table.specs.Refusals.{refusalSays}
 use Rattle.table.specs.Tables.{jobTable}
 use Rattle.lookup.specs.Lookup.{jobOf}
+use Rattle.plan.specs.declared.Plan.{Plan}
 use Rattle.plan.specs.declared.Step.{Step}
 use Rattle.plan.specs.Plans.{stepsOf}
 use Rattle.draft.specs.declared.Draft.{Draft}
 use Rattle.draft.specs.declared.Drafted.{Drafted}
-use Rattle.listing.specs.Listing.{firstLine, jobLines, lastLine, refusedText}
+use Rattle.lines.specs.Lines.{refusedText}
+use Rattle.listing.specs.Listing.{firstLine, jobLines, lastLine}
 
 -- the job with this id; every step of a plan has one
 abbrev pub orNone : Option Job → Job
@@ -38,10 +40,13 @@ chosenFor js xs = map (chosenBy js) xs
 abbrev pub placed : Job → Bool → ℕ → Placed
 placed j away start = record { what = chosen j away; start = start }
 
+-- a line for each step of a plan, back to back from tick 0
+abbrev pub stepLines : Table → Plan → List ℕ
+stepLines t p = jobLines (laid 0 (chosenFor (jobTable t .jobs) (stepsOf p)))
+
 -- the text of a draft, and of what the planner made
 unfoldable pub draftText : Table → Draft → List ℕ
-draftText t d =
-    firstLine (t .deadline) (t .count) ++ jobLines (laid 0 (chosenFor (jobTable t .jobs) (stepsOf (d .plan)))) ++ lastLine (d .laid .busy) (d .laid .last)
+draftText t d = firstLine (t .deadline) (t .count) ++ stepLines t (d .plan) ++ lastLine (d .laid .busy) (d .laid .last)
 
 unfoldable pub madeText : Table → Drafted → List ℕ
 madeText t m = cond (m .found) (draftText t (m .draft)) (refusedText (refusalSays None))

@@ -5,7 +5,7 @@ use mathlib.Core.Bool.{Bool, cond}
 use mathlib.Core.List.{List, [], _∷_, _++_}
 use mathlib.Core.Option.{Option, none, some}
 use Prim.Native.Nat.{ℕ, _≤_, _<_}
-use lib.ListN.{length, drop, getD}
+use lib.ListN.{length, drop}
 use Rattle.model.specs.Timetable.{Chosen, Placed, spanEnd, finish}
 use Rattle.model.specs.FreeOrder.{laid, busy, lastFrom}
 use Rattle.model.specs.Positions.{free}
@@ -14,6 +14,8 @@ use Rattle.table.specs.Limits.{mostJobs}
 use Rattle.table.specs.Refusals.{refusalSays, Outcome, accepted, refused}
 use Rattle.table.specs.Tables.{JobTable, readTable}
 use Rattle.bytes.specs.Decimals.{decimal}
+use Rattle.lines.specs.Lines.{space, newline, pairLine}
+unfoldable pub use Rattle.lines.specs.Lines.{refusedText}
 use Rattle.listing.specs.declared.Listed.{Listed}
 use Rattle.listing.specs.declared.Listed.the-variants.{Text, NoRoom}
 
@@ -35,14 +37,6 @@ awayWord = 0x20 ∷ 0x61 ∷ 0x77 ∷ 0x61 ∷ 0x79 ∷ 0x20 ∷ []
 abbrev pub hereWord : List ℕ
 hereWord = 0x20 ∷ 0x68 ∷ 0x65 ∷ 0x72 ∷ 0x65 ∷ 0x20 ∷ []
 
--- b" "
-abbrev pub space : List ℕ
-space = 0x20 ∷ []
-
--- "each line ended by byte 0x0A"
-abbrev pub newline : List ℕ
-newline = 0x0A ∷ []
-
 -- b"busy "
 abbrev pub busyWord : List ℕ
 busyWord = 0x62 ∷ 0x75 ∷ 0x73 ∷ 0x79 ∷ 0x20 ∷ []
@@ -51,14 +45,6 @@ busyWord = 0x62 ∷ 0x75 ∷ 0x73 ∷ 0x79 ∷ 0x20 ∷ []
 abbrev pub lastWord : List ℕ
 lastWord = 0x20 ∷ 0x6C ∷ 0x61 ∷ 0x73 ∷ 0x74 ∷ 0x20 ∷ []
 
--- b"refused "
-abbrev pub refusedWord : List ℕ
-refusedWord = 0x72 ∷ 0x65 ∷ 0x66 ∷ 0x75 ∷ 0x73 ∷ 0x65 ∷ 0x64 ∷ 0x20 ∷ []
-
--- b" at "
-abbrev pub atWord : List ℕ
-atWord = 0x20 ∷ 0x61 ∷ 0x74 ∷ 0x20 ∷ []
-
 -- "Job lines: id, choice, start, span end, finish."
 abbrev pub choiceWord : Bool → List ℕ
 choiceWord away = cond away awayWord hereWord
@@ -66,10 +52,6 @@ choiceWord away = cond away awayWord hereWord
 unfoldable pub jobLine : Placed → List ℕ
 jobLine p =
     decimal (p .what .job .id) ++ choiceWord (p .what .away) ++ decimal (p .start) ++ space ++ decimal (spanEnd p) ++ space ++ decimal (finish p) ++ newline
-
--- a line of two numbers, each behind its word: the first line, the last line and a refusal with its place
-unfoldable pub pairLine : List ℕ → ℕ → List ℕ → ℕ → List ℕ
-pairLine first a second b = first ++ decimal a ++ second ++ decimal b ++ newline
 
 -- "First line: D, number of jobs"
 abbrev pub firstLine : ℕ → ℕ → List ℕ
@@ -87,14 +69,6 @@ jobLines (p ∷ ps) = jobLine p ++ jobLines ps
 -- xs are the jobs in plan order, back to back from tick 0
 unfoldable pub planText : JobTable → List Chosen → List ℕ
 planText t xs = firstLine (t .deadline) (length (t .jobs)) ++ jobLines (laid 0 xs) ++ lastLine (busy xs) (lastFrom 0 xs)
-
--- "A refusal prints only `refused 7`, or for 1 to 6 `refused 2 at 3` (number, place)": `says` has the number and, for 1 to 6, the place
-abbrev pub placeText : List ℕ → List ℕ
-placeText [] = []
-placeText (place ∷ rest) = atWord ++ decimal place
-
-unfoldable pub refusedText : List ℕ → List ℕ
-refusedText says = refusedWord ++ decimal (getD says 0 0) ++ placeText (drop 1 says) ++ newline
 
 -- "A program reads a table from standard input and prints the free-order plan"; NONE where the planner finds none
 abbrev pub foundText : JobTable → Option (List Chosen) → List ℕ
@@ -122,4 +96,5 @@ listedSays NoRoom = refusalSays Room
 pub data Lists (s before : List ℕ) (r : Listed) (after : List ℕ) : Type 0 where
   no-room : length before < roomForText → listedSays r ≡ refusalSays Room → after ≡ before → Lists s before r after
   text-written :
-      roomForText ≤ length before → listedSays r ≡ 0 ∷ length (textOf s) ∷ [] → after ≡ textOf s ++ drop (length (textOf s)) before → Lists s before r after
+      roomForText ≤ length before → listedSays r ≡ 0 ∷ length (textOf s) ∷ [] → after ≡ textOf s ++ drop (length (textOf s)) before →
+      Lists s before r after

@@ -1,5 +1,5 @@
 // The lister's text: the free-order plan of a table, or a refusal, as document 01 has it printed, at the front of a lent buffer.
-// specs/Listing.antt has the text for any table bytes; the fixed words stand here as byte strings.
+// specs/Listing.antt has the text for any table bytes; its fixed words stand here and in crate lines as byte strings.
 use draft::Draft;
 use draft::Drafted;
 use model::Job;
@@ -7,46 +7,25 @@ use model::Sending;
 use plan::Plan;
 use table::Table;
 use table::TableVerdict;
-use table::refusal;
 use table::refusal::Refusal;
 ghost use mathlib.Core.Path.{_≡_};
 ghost use mathlib.Core.List.{_++_};
 ghost use Prim.Native.Nat.{_+_, _≤_};
 ghost use lib.ListN.{length, getD};
-ghost use Rattle.model.specs.FreeOrder.{laid};
+ghost use Rattle.model.specs.Laying.{mostBusy};
 ghost use Rattle.model.specs.Positions.{noJob};
 ghost use Rattle.table.specs.Limits.{mostJobs};
-ghost use Rattle.table.specs.Refusals.{refusalSays};
 ghost use Rattle.table.specs.Tables.{jobTable};
-ghost use Rattle.plan.specs.Plans.{stepsOf};
 ghost use Rattle.bytes.specs.Decimals.{decimal};
 ghost use Rattle.bytes.specs.Writing.{Wrote};
-ghost use Rattle.listing.specs.Found.{chosenFor, placed, draftText, madeText};
-ghost use Rattle.listing.specs.Listing.{choiceWord, jobLine, pairLine, jobLines, refusedText, Lists};
+ghost use Rattle.lines.specs.Lines.{refusedRoom};
+ghost use Rattle.listing.specs.Found.{placed, stepLines, draftText, madeText};
+ghost use Rattle.listing.specs.Listing.{choiceWord, jobLine, Lists};
 
 // The text's length, or no room for the longest text.
 pub enum Listed {
     Text(usize),
     NoRoom,
-}
-
-// A word and a number behind it.
-fn put_field(out: &mut [u8], at: usize, word: &[u8], n: usize) -> usize
-    requires { ⌜ at + length (now word ++ decimal n) ≤ length (now out) ⌝ }
-    ensures { λ r. ⌜ Wrote (now (out .entry)) at (now (word .entry) ++ decimal n) (now (out .exit)) r ⌝ }
-{
-    let end = bytes::put(out, at, word);
-    bytes::put_number(out, end, n)
-}
-
-// A line of two numbers, each behind its word.
-fn put_pair(out: &mut [u8], at: usize, first: &[u8], a: usize, second: &[u8], b: usize) -> usize
-    requires { ⌜ at + length (pairLine (now first) a (now second) b) ≤ length (now out) ⌝ }
-    ensures { λ r. ⌜ Wrote (now (out .entry)) at (pairLine (now (first .entry)) a (now (second .entry)) b) (now (out .exit)) r ⌝ }
-{
-    let middle = put_field(out, at, first, a);
-    let end = put_field(out, middle, second, b);
-    bytes::put(out, end, b"\n")
 }
 
 // A job's choice and its start.
@@ -55,22 +34,22 @@ fn put_start(out: &mut [u8], at: usize, away: bool, start: usize) -> usize
     ensures { λ r. ⌜ Wrote (now (out .entry)) at (choiceWord away ++ decimal start) (now (out .exit)) r ⌝ }
 {
     if away {
-        put_field(out, at, b" away ", start)
+        lines::put_field(out, at, b" away ", start)
     } else {
-        put_field(out, at, b" here ", start)
+        lines::put_field(out, at, b" here ", start)
     }
 }
 
 // The line of a job whose span starts at `start`.
 fn put_job_line(out: &mut [u8], at: usize, job: Job, away: bool, start: usize) -> usize
-    requires { ⌜ (start ≤ 4000000000) × (at + length (jobLine (placed job away start)) ≤ length (now out)) ⌝ }
+    requires { ⌜ (start ≤ mostBusy) × (at + length (jobLine (placed job away start)) ≤ length (now out)) ⌝ }
     ensures { λ r. ⌜ Wrote (now (out .entry)) at (jobLine (placed job away start)) (now (out .exit)) r ⌝ }
 {
     let end = start + model::span_of(job, away) as usize;
     let finish = end + model::wait_of(job, away) as usize;
     let a = bytes::put_number(out, at, job.id as usize);
     let b = put_start(out, a, away, start);
-    put_pair(out, b, b" ", end, b" ", finish)
+    lines::put_pair(out, b, b" ", end, b" ", finish)
 }
 
 // The i-th job of the table, and one of no length behind the last.
@@ -90,8 +69,8 @@ fn job_at(t: Table, i: usize) -> Job
 
 // A line for each step of the plan, back to back from tick 0.
 fn put_lines(out: &mut [u8], from: usize, plan: Plan, t: Table) -> usize
-    requires { ⌜ (plan .count ≤ mostJobs) × (t .count ≤ mostJobs) × (from + length (jobLines (laid 0 (chosenFor (jobTable t .jobs) (stepsOf plan)))) ≤ length (now out)) ⌝ }
-    ensures { λ r. ⌜ Wrote (now (out .entry)) from (jobLines (laid 0 (chosenFor (jobTable t .jobs) (stepsOf plan)))) (now (out .exit)) r ⌝ }
+    requires { ⌜ (plan .count ≤ mostJobs) × (t .count ≤ mostJobs) × (from + length (stepLines t plan) ≤ length (now out)) ⌝ }
+    ensures { λ r. ⌜ Wrote (now (out .entry)) from (stepLines t plan) (now (out .exit)) r ⌝ }
 {
     let n = plan.count;
     let index = lookup::index_of(t);
@@ -116,9 +95,9 @@ fn put_plan(out: &mut [u8], t: Table, draft: Draft) -> usize
 {
     let plan = draft.plan;
     let laid = draft.laid;
-    let a = put_pair(out, 0, b"frame ", t.deadline as usize, b" jobs ", t.count);
+    let a = lines::put_pair(out, 0, b"frame ", t.deadline as usize, b" jobs ", t.count);
     let b = put_lines(out, a, plan, t);
-    put_pair(
+    lines::put_pair(
         out,
         b,
         b"busy ",
@@ -128,29 +107,17 @@ fn put_plan(out: &mut [u8], t: Table, draft: Draft) -> usize
     )
 }
 
-// The line of a refusal: its number, and its place if it has one.
-fn put_refused(out: &mut [u8], f: Refusal) -> usize
-    requires { ⌜ length (refusedText (refusalSays f)) ≤ length (now out) ⌝ }
-    ensures { λ r. ⌜ Wrote (now (out .entry)) 0 (refusedText (refusalSays f)) (now (out .exit)) r ⌝ }
-{
-    let said = refusal::numbers_of(f);
-    if said.placed {
-        return put_pair(out, 0, b"refused ", said.number, b" at ", said.place);
-    }
-    let end = put_field(out, 0, b"refused ", said.number);
-    bytes::put(out, end, b"\n")
-}
-
 // The plan that was found, or NONE.
 fn put_made(out: &mut [u8], t: Table, made: Drafted) -> usize
     requires { ⌜ (made .draft .plan .count ≤ mostJobs) × (t .count ≤ mostJobs) × (length (madeText t made) ≤ length (now out)) ⌝ }
+    requires { ⌜ refusedRoom ≤ length (now out) ⌝ }
     ensures { λ r. ⌜ Wrote (now (out .entry)) 0 (madeText t made) (now (out .exit)) r ⌝ }
 {
     let draft = made.draft;
     if made.found {
         put_plan(out, t, draft)
     } else {
-        put_refused(out, Refusal::None)
+        lines::put_refused(out, 0, Refusal::None)
     }
 }
 
@@ -165,7 +132,7 @@ pub fn list_plan(table: &[u8], out: &mut [u8]) -> Listed
     let verdict = read.verdict;
     let t = read.table;
     match verdict {
-        TableVerdict::Refused(f) => Listed::Text(put_refused(out, f)),
+        TableVerdict::Refused(f) => Listed::Text(lines::put_refused(out, 0, f)),
         TableVerdict::Whole => Listed::Text(put_made(out, t, free::free_plan(t))),
     }
 }

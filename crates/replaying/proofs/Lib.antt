@@ -1,1 +1,4 @@
+pub mod Records
+pub mod Rooms
 pub mod Turns
+pub mod Runs

@@ -1,11 +1,12 @@
--- docs/REPLAY.md: a record of the log, "numbers low byte first; a value is the four bytes of its f32 pattern", and the call that it is.
--- Assumes nothing.
-use Prim.Native.Nat.{ℕ, zero, suc, _+_, _*_, _-_}
+-- docs/REPLAY.md, 'The log in bytes': "Numbers are low byte first; a value is the four bytes of its 32-bit float pattern." The record at the front of
+-- a log, the call that it is, and the frame's record after a whole log. Assumes nothing.
+use Prim.Native.Nat.{ℕ, zero, suc, _+_}
 use mathlib.Core.Bool.{cond}
 use mathlib.Core.List.{List}
 use lib.ListN.{length, getD, take, drop}
-use lib.Dec.{ltb, leb, eqb}
+use lib.Dec.{leb, eqb}
 use lib.Ieee.{Float, nan, nanBits, ofBits, binary32}
+use Rattle.bytes.specs.Numbers.{twoAt, fourAt}
 use Rattle.frame_record.specs.declared.Frame.{Frame}
 use Rattle.frame_record.specs.declared.Called.{Called}
 use Rattle.frame_record.specs.declared.Event.{Event}
@@ -13,65 +14,81 @@ use Rattle.frame_record.specs.declared.Event.the-variants as E
 use Rattle.frame_record.specs.Answers.{idle}
 use Rattle.frame_calls.specs.Calls.{eventStep}
 use Rattle.frame_begin.specs.Begin.{beginStep}
+use Rattle.replaying.specs.declared.EventKind.{EventKind}
+use Rattle.replaying.specs.declared.EventKind.the-variants as K
+use Rattle.replaying.specs.declared.CallKind.{CallKind}
+use Rattle.replaying.specs.declared.CallKind.the-variants.{Begin, Other}
+use Rattle.replaying.specs.declared.KindRead.{KindRead}
+use Rattle.replaying.specs.declared.KindRead.the-variants.{Call, Unknown}
+use Rattle.replaying.specs.declared.RecordRead.{RecordRead}
+use Rattle.replaying.specs.declared.RecordRead.the-variants.{Whole, Stop}
 
--- the byte at a place, 0 past the end
-unfoldable pub byteAt : List ℕ → ℕ → ℕ
-byteAt s k = getD s k 0
+-- The table of kinds, line by line.
+unfoldable pub kindOf : ℕ → KindRead
+kindOf b =
+    cond (eqb b 0x40) (Call Begin)
+    (cond (eqb b 0x41) (Call (Other K.Next))
+    (cond (eqb b 0x42) (Call (Other K.Span))
+    (cond (eqb b 0x43) (Call (Other K.Return))
+    (cond (eqb b 0x44) (Call (Other K.Close))
+    (cond (eqb b 0x45) (Call (Other K.Read)) Unknown)))))
 
-unfoldable pub low16 : List ℕ → ℕ → ℕ
-low16 s k = byteAt s k + 256 * byteAt s (k + 1)
+-- how long a record is: its kind byte and the body, of which a begin's has the lengths of its table and its plan
+abbrev pub eventSize : EventKind → ℕ
+eventSize K.Next = 1
+eventSize K.Span = 8
+eventSize K.Return = 12
+eventSize K.Close = 3
+eventSize K.Read = 2
 
-unfoldable pub low32 : List ℕ → ℕ → ℕ
-low32 s k = low16 s k + 65536 * low16 s (k + 2)
+abbrev pub recordSize : CallKind → List ℕ → ℕ
+recordSize Begin s = 9 + twoAt s 5 + twoAt s 7
+recordSize (Other k) s = eventSize k
+
+-- the record at the front of s; "an unknown kind or a cut body ends the run"
+abbrev pub fitting : CallKind → ℕ → ℕ → RecordRead
+fitting k size have = cond (leb size have) (Whole k size) Stop
+
+abbrev pub readAs : List ℕ → KindRead → RecordRead
+readAs s (Call k) = fitting k (recordSize k s) (length s)
+readAs s Unknown = Stop
+
+unfoldable pub recordAt : List ℕ → RecordRead
+recordAt s = readAs s (kindOf (getD s 0 0))
 
 -- there is one nan, whatever its pattern
 unfoldable pub valueOf : ℕ → Float
 valueOf bits = cond (nanBits binary32 bits) nan (ofBits binary32 bits)
 
--- the length of a record up to its table, by its kind; 0 for an unknown kind
-unfoldable pub headSize : ℕ → ℕ
-headSize kind =
-    cond (eqb kind 0x40) 9
-    (cond (eqb kind 0x41) 1
-    (cond (eqb kind 0x42) 8
-    (cond (eqb kind 0x43) 12
-    (cond (eqb kind 0x44) 3
-    (cond (eqb kind 0x45) 2 0)))))
+-- the call of a whole record
+abbrev pub eventOf : EventKind → List ℕ → Event
+eventOf K.Next s = E.Next
+eventOf K.Span s = E.SpanEnd (getD s 1 0) (twoAt s 2) (valueOf (fourAt s 4))
+eventOf K.Return s = E.Return (fourAt s 1) (getD s 5 0) (twoAt s 6) (valueOf (fourAt s 8))
+eventOf K.Close s = E.Close (twoAt s 1)
+eventOf K.Read s = E.Read (getD s 1 0)
 
--- the call of a whole record that is no begin
-unfoldable pub eventOf : List ℕ → ℕ → Event
-eventOf s kind =
-    cond (eqb kind 0x42) (E.SpanEnd (byteAt s 1) (low16 s 2) (valueOf (low32 s 4)))
-    (cond (eqb kind 0x43) (E.Return (low32 s 1) (byteAt s 5) (low16 s 6) (valueOf (low32 s 8)))
-    (cond (eqb kind 0x44) (E.Close (low16 s 1))
-    (cond (eqb kind 0x45) (E.Read (byteAt s 1)) E.Next)))
-
--- the length of the record at the front of s; 0 where its kind is unknown or its body is cut
-unfoldable pub whole : List ℕ → ℕ → ℕ
-whole s size = cond (ltb (length s) size) 0 size
-
-unfoldable pub sizeOf : List ℕ → ℕ → ℕ
-sizeOf s head = cond (ltb (length s) head) 0 (cond (eqb head 9) (whole s (9 + low16 s 5 + low16 s 7)) head)
-
-unfoldable pub recordSize : List ℕ → ℕ
-recordSize s = cond (eqb (length s) 0) 0 (sizeOf s (headSize (byteAt s 0)))
-
--- begin with the table and the plan of a record, which stand there in a whole one
 unfoldable pub beginOf : Frame → List ℕ → Called
-beginOf f s =
-    cond (leb (9 + low16 s 5) (length s))
-    (beginStep f (take (9 + low16 s 5 - 9) (drop 9 s)) (take (length s - (9 + low16 s 5)) (drop (9 + low16 s 5) s)) (low32 s 1))
-    (eventStep f E.Next)
+beginOf f s = beginStep f (take (twoAt s 5) (drop 9 s)) (drop (9 + twoAt s 5) s) (fourAt s 1)
 
--- the call that a record makes
-unfoldable pub callOf : Frame → List ℕ → Called
-callOf f s = cond (eqb (byteAt s 0) 0x40) (beginOf f s) (eventStep f (eventOf s (byteAt s 0)))
+abbrev pub callOf : Frame → CallKind → List ℕ → Called
+callOf f Begin s = beginOf f s
+callOf f (Other k) s = eventStep f (eventOf k s)
 
--- the frame's record after the calls at the front of s, of which there may be `most`
+-- One turn, where s is what is left of the log: the frame's record after it, and how far it goes; where the run stops, to the log's end.
+abbrev pub frameAfter : Frame → List ℕ → RecordRead → Frame
+frameAfter f s (Whole k n) = callOf f k (take n s) .frame
+frameAfter f s Stop = f
+
+abbrev pub goneBy : List ℕ → RecordRead → ℕ
+goneBy s (Whole k n) = n
+goneBy s Stop = length s
+
+-- the frame's record after the turns that are left, of which there may be `most`
 unfoldable pub after : ℕ → Frame → List ℕ → Frame
 after zero f s = f
-after (suc most) f s = cond (eqb (recordSize s) 0) f (after most (callOf f (take (recordSize s) s) .frame) (drop (recordSize s) s))
+after (suc most) f s = cond (eqb (length s) 0) f (after most (frameAfter f s (recordAt s)) (drop (goneBy s (recordAt s)) s))
 
--- the frame's record after a log from idle: a call has at least one byte
+-- the frame's record after a log from idle: a turn takes at least one byte
 unfoldable pub replayed : List ℕ → Frame
 replayed s = after (length s) idle s

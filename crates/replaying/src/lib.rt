@@ -1,52 +1,118 @@
 // A frame's log as text: calls read from bytes, made one after another on one record, a line written for each.
-// specs/Log.antt has a record's length, the call that it is, and the frame's record after a whole log; the code is proved to give those.
-// The lines go to standard output, of which no contract can speak: their words, and where a run stops, are only tested (crate replay, stdin and stdout).
+// specs/Log.antt has the record at the front of a log and the call that it is, specs/Lines.antt the line of each call and the text of a log.
+// No contract can speak of standard output: that a line's bytes go there, one line after the other, stands in `shown` and `replay` alone.
 use frame_record::Answer;
 use frame_record::Called;
 use frame_record::Event;
 use frame_record::Frame;
 use frame_record::Reading;
-use table::refusal;
-use table::refusal::Refusal;
+use frame_record::Sample;
 ghost use mathlib.Core.Path.{_≡_};
-ghost use Prim.Native.Nat.{_+_, _<_, _≤_};
+ghost use Prim.Native.Nat.{_+_, _≤_};
 ghost use lib.ListN.{length};
-ghost use Rattle.replaying.specs.Log.{byteAt, low16, low32, valueOf, headSize, recordSize, eventOf, beginOf, callOf, replayed};
+ghost use lib.Ieee.{toBits, binary32};
+ghost use Rattle.bytes.specs.Writing.{Wrote};
+ghost use Rattle.lines.specs.Lines.{refusedRoom};
+ghost use Rattle.replaying.specs.Log.{kindOf, eventSize, recordSize, fitting, readAs, recordAt, valueOf, eventOf, beginOf, callOf};
+ghost use Rattle.replaying.specs.Log.{replayed};
+ghost use Rattle.replaying.specs.Lines.{eventWord, callWord, panelText, patternText, freshText, readingText, answerText, stoppedLine, lineRoom};
+ghost use Rattle.replaying.specs.Lines.{Shows, TurnAt, Moved};
 
-fn wide(b: u8) -> u32
-    ensures { λ r. ⌜ (r ≡ b) × (r < 256) ⌝ }
-{
-    b as u32
+// The records that fix their length.
+pub enum EventKind {
+    Next,
+    Span,
+    Return,
+    Close,
+    Read,
 }
 
-// The byte at a place, 0 past the end.
-fn byte(s: &[u8], k: usize) -> u32
-    ensures { λ r. ⌜ (r ≡ byteAt (now (s .entry)) k) × (r < 256) ⌝ }
+pub enum CallKind {
+    Begin,
+    Other(EventKind),
+}
+
+pub enum KindRead {
+    Call(CallKind),
+    Unknown,
+}
+
+// The record at the front of a log, by its kind and its length; or the run stops there.
+pub enum RecordRead {
+    Whole(CallKind, usize),
+    Stop,
+}
+
+// What one turn leaves: the frame's record, how many bytes of the log it took, and how many its line has.
+pub struct Turn {
+    pub frame: Frame,
+    pub gone: usize,
+    pub size: usize,
+}
+
+// The kinds, stated once.
+fn kind_of(b: u8) -> KindRead
+    ensures { λ r. ⌜ r ≡ kindOf b ⌝ }
 {
-    if k < s.len() {
-        return wide(s[k]);
+    match b {
+        0x40 => KindRead::Call(CallKind::Begin),
+        0x41 => KindRead::Call(CallKind::Other(EventKind::Next)),
+        0x42 => KindRead::Call(CallKind::Other(EventKind::Span)),
+        0x43 => KindRead::Call(CallKind::Other(EventKind::Return)),
+        0x44 => KindRead::Call(CallKind::Other(EventKind::Close)),
+        0x45 => KindRead::Call(CallKind::Other(EventKind::Read)),
+        _ => KindRead::Unknown,
     }
-    0
 }
 
-// Two bytes, the low one first.
-fn two(s: &[u8], k: usize) -> u32
-    requires { ⌜ k < 65536 ⌝ }
-    ensures { λ r. ⌜ (r ≡ low16 (now (s .entry)) k) × (r < 65536) ⌝ }
+fn event_size(kind: EventKind) -> usize
+    ensures { λ r. ⌜ r ≡ eventSize kind ⌝ }
 {
-    let a = byte(s, k);
-    let b = byte(s, k + 1);
-    a + 256 * b
+    match kind {
+        EventKind::Next => 1,
+        EventKind::Span => 8,
+        EventKind::Return => 12,
+        EventKind::Close => 3,
+        EventKind::Read => 2,
+    }
 }
 
-// Four bytes, the low one first.
-fn four(s: &[u8], k: usize) -> u32
-    requires { ⌜ k < 65534 ⌝ }
-    ensures { λ r. ⌜ r ≡ low32 (now (s .entry)) k ⌝ }
+fn fitting(kind: CallKind, size: usize, have: usize) -> RecordRead
+    ensures { λ r. ⌜ r ≡ fitting kind size have ⌝ }
 {
-    let a = two(s, k);
-    let b = two(s, k + 2);
-    a + 65536 * b
+    if size <= have {
+        return RecordRead::Whole(kind, size);
+    }
+    RecordRead::Stop
+}
+
+// The record of a kind, where it is whole.
+fn read_as(s: &[u8], kind: CallKind) -> RecordRead
+    ensures { λ r. ⌜ r ≡ fitting kind (recordSize kind (now (s .entry))) (length (now (s .entry))) ⌝ }
+{
+    match kind {
+        CallKind::Begin => {
+            if s.len() < 9 {
+                return RecordRead::Stop;
+            }
+            let table = bytes::two_at(s, 5) as usize;
+            let plan = bytes::two_at(s, 7) as usize;
+            fitting(CallKind::Begin, 9 + table + plan, s.len())
+        }
+        CallKind::Other(k) => fitting(CallKind::Other(k), event_size(k), s.len()),
+    }
+}
+
+fn record_at(s: &[u8]) -> RecordRead
+    ensures { λ r. ⌜ r ≡ recordAt (now (s .entry)) ⌝ }
+{
+    if s.len() == 0 {
+        return RecordRead::Stop;
+    }
+    match kind_of(s[0]) {
+        KindRead::Call(kind) => read_as(s, kind),
+        KindRead::Unknown => RecordRead::Stop,
+    }
 }
 
 // The f32 of a pattern; every pattern of a NaN is the one NaN, which the record refuses.
@@ -63,183 +129,188 @@ fn value_of(bits: u32) -> f32
 }
 
 // The pattern of a value; a NaN, which no reading has, is written as one pattern of a NaN.
-fn pattern_of(x: f32) -> u32 {
+fn pattern_of(x: f32) -> u32
+    ensures { λ r. ⌜ r ≡ toBits binary32 x ⌝ }
+{
     if x == x {
         return f32::to_bits(x);
     }
     0x7fc0_0000
 }
 
-// The length of a record up to its table, by its kind; 0 for an unknown kind.
-fn head_size(kind: u8) -> usize
-    ensures { λ r. ⌜ r ≡ headSize kind ⌝ }
+// The call of a whole record that is no begin.
+fn event_of(kind: EventKind, s: &[u8]) -> Event
+    requires { ⌜ eventSize kind ≡ length (now s) ⌝ }
+    ensures { λ r. ⌜ r ≡ eventOf kind (now (s .entry)) ⌝ }
 {
     match kind {
-        0x40 => 9,
-        0x41 => 1,
-        0x42 => 8,
-        0x43 => 12,
-        0x44 => 3,
-        0x45 => 2,
-        _ => 0,
-    }
-}
-
-// The call of a record that is no begin.
-fn event_of(s: &[u8]) -> Event
-    ensures { λ r. ⌜ r ≡ eventOf (now (s .entry)) (byteAt (now (s .entry)) 0) ⌝ }
-{
-    let kind = byte(s, 0);
-    match kind {
-        0x42 => Event::SpanEnd {
-            id: byte(s, 1) as u8,
-            time: two(s, 2) as u16,
-            value: value_of(four(s, 4)),
+        EventKind::Next => Event::Next,
+        EventKind::Span => Event::SpanEnd {
+            id: s[1],
+            time: bytes::two_at(s, 2),
+            value: value_of(bytes::four_at(s, 4)),
         },
-        0x43 => Event::Return {
-            number: four(s, 1),
-            id: byte(s, 5) as u8,
-            time: two(s, 6) as u16,
-            value: value_of(four(s, 8)),
+        EventKind::Return => Event::Return {
+            number: bytes::four_at(s, 1),
+            id: s[5],
+            time: bytes::two_at(s, 6),
+            value: value_of(bytes::four_at(s, 8)),
         },
-        0x44 => Event::Close(two(s, 1) as u16),
-        0x45 => Event::Read(byte(s, 1) as u8),
-        _ => Event::Next,
+        EventKind::Close => Event::Close(bytes::two_at(s, 1)),
+        EventKind::Read => Event::Read(s[1]),
     }
 }
 
-// The length of the record at the front of `s`, at most all of it; 0 where its kind is unknown or its body is cut.
-fn record_size(s: &[u8]) -> usize
-    ensures { λ r. ⌜ (r ≡ recordSize (now (s .entry))) × (r ≤ length (now (s .entry))) ⌝ }
-{
-    if s.len() == 0 {
-        return 0;
-    }
-    let head = head_size(s[0]);
-    if s.len() < head {
-        return 0;
-    }
-    if head == 9 {
-        let size = 9 + two(s, 5) as usize + two(s, 7) as usize;
-        if s.len() < size {
-            return 0;
-        }
-        return size;
-    }
-    head
-}
-
-// Begins with the table and the plan of a record; one that is cut, which a whole record is not, begins nothing.
+// Begins with the table and the plan of a whole record.
 fn begun(frame: Frame, s: &[u8]) -> Called
+    requires { ⌜ recordSize CallKind.Begin (now s) ≡ length (now s) ⌝ }
     ensures { λ r. ⌜ r ≡ beginOf frame (now (s .entry)) ⌝ }
 {
-    let end = 9 + two(s, 5) as usize;
-    if end <= s.len() {
-        let table = &s[9..end];
-        let plan = &s[end..];
-        return frame_begin::begin(frame, table, plan, four(s, 1));
-    }
-    frame_calls::step(frame, Event::Next)
+    let end = 9 + bytes::two_at(s, 5) as usize;
+    let number = bytes::four_at(s, 1);
+    let table = &s[9..end];
+    let plan = &s[end..];
+    frame_begin::begin(frame, table, plan, number)
 }
 
-// Makes the call of a record.
-fn called(frame: Frame, s: &[u8]) -> Called
-    ensures { λ r. ⌜ r ≡ callOf frame (now (s .entry)) ⌝ }
+// Makes the call of a whole record.
+fn called(frame: Frame, kind: CallKind, s: &[u8]) -> Called
+    requires { ⌜ recordSize kind (now s) ≡ length (now s) ⌝ }
+    ensures { λ r. ⌜ r ≡ callOf frame kind (now (s .entry)) ⌝ }
 {
-    if byte(s, 0) == 0x40 {
-        return begun(frame, s);
-    }
-    frame_calls::step(frame, event_of(s))
-}
-
-fn write_word(kind: u32) {
     match kind {
-        0x40 => {
-            io::write_all(1, b"begin ");
-        }
-        0x41 => {
-            io::write_all(1, b"next ");
-        }
-        0x42 => {
-            io::write_all(1, b"span ");
-        }
-        0x43 => {
-            io::write_all(1, b"return ");
-        }
-        0x44 => {
-            io::write_all(1, b"close ");
-        }
-        _ => {
-            io::write_all(1, b"read ");
-        }
+        CallKind::Begin => begun(frame, s),
+        CallKind::Other(k) => frame_calls::step(frame, event_of(k, s)),
     }
 }
 
-// A refusal by document 01's numbers, with its place where it has one.
-fn write_refusal(f: Refusal) {
-    let said = refusal::numbers_of(f);
-    io::write_all(1, b"refused ");
-    io::print_decimal(1, said.number as u64);
-    if said.placed {
-        io::write_all(1, b" at ");
-        io::print_decimal(1, said.place as u64);
-    }
-    io::write_all(1, b"\n");
-}
-
-fn write_reading(r: Reading) {
-    match r {
-        Reading::Fresh(x) => {
-            io::write_all(1, b"fresh ");
-            io::print_decimal(1, x.frame as u64);
-            io::write_all(1, b" ");
-            io::print_hex(1, pattern_of(x.value) as u64, 8);
-            io::write_all(1, b"\n");
-        }
-        Reading::Pending => {
-            io::write_all(1, b"pending\n");
-        }
-        Reading::Late => {
-            io::write_all(1, b"late\n");
-        }
-        Reading::Missing => {
-            io::write_all(1, b"missing\n");
-        }
-    }
-}
-
-fn write_panel(id: u8, away: bool) {
-    io::print_decimal(1, id as u64);
-    if away {
-        io::write_all(1, b" away\n");
-    } else {
-        io::write_all(1, b" here\n");
-    }
-}
-
-fn write_answer(a: Answer) {
-    match a {
-        Answer::Done => {
-            io::write_all(1, b"accepted\n");
-        }
-        Answer::Panel(id, away) => write_panel(id, away),
-        Answer::Rest => {
-            io::write_all(1, b"none\n");
-        }
-        Answer::Read(r) => write_reading(r),
-        Answer::Refused(f) => write_refusal(f),
-    }
-}
-
-// Makes the call of a record, writes its line, and returns the frame's record afterwards.
-fn shown(frame: Frame, s: &[u8]) -> Frame
-    ensures { λ r. ⌜ r ≡ callOf frame (now (s .entry)) .frame ⌝ }
+fn put_event_word(out: &mut [u8], kind: EventKind) -> usize
+    requires { ⌜ 7 ≤ length (now out) ⌝ }
+    ensures { λ r. ⌜ Wrote (now (out .entry)) 0 (eventWord kind) (now (out .exit)) r ⌝ }
 {
-    let step = called(frame, s);
+    match kind {
+        EventKind::Next => bytes::put(out, 0, b"next "),
+        EventKind::Span => bytes::put(out, 0, b"span "),
+        EventKind::Return => bytes::put(out, 0, b"return "),
+        EventKind::Close => bytes::put(out, 0, b"close "),
+        EventKind::Read => bytes::put(out, 0, b"read "),
+    }
+}
+
+fn put_word(out: &mut [u8], kind: CallKind) -> usize
+    requires { ⌜ 7 ≤ length (now out) ⌝ }
+    ensures { λ r. ⌜ Wrote (now (out .entry)) 0 (callWord kind) (now (out .exit)) r ⌝ }
+{
+    match kind {
+        CallKind::Begin => bytes::put(out, 0, b"begin "),
+        CallKind::Other(k) => put_event_word(out, k),
+    }
+}
+
+fn put_panel(out: &mut [u8], at: usize, id: u8, away: bool) -> usize
+    requires { ⌜ at + 9 ≤ length (now out) ⌝ }
+    ensures { λ r. ⌜ Wrote (now (out .entry)) at (panelText id away) (now (out .exit)) r ⌝ }
+{
+    let end = bytes::put_number(out, at, id as usize);
+    if away {
+        return bytes::put(out, end, b" away\n");
+    }
+    bytes::put(out, end, b" here\n")
+}
+
+fn put_pattern(out: &mut [u8], at: usize, bits: u32) -> usize
+    requires { ⌜ at + 10 ≤ length (now out) ⌝ }
+    ensures { λ r. ⌜ Wrote (now (out .entry)) at (patternText bits) (now (out .exit)) r ⌝ }
+{
+    let a = bytes::put(out, at, b" ");
+    let b = bytes::put_hex(out, a, bits);
+    bytes::put(out, b, b"\n")
+}
+
+fn put_fresh(out: &mut [u8], at: usize, x: Sample) -> usize
+    requires { ⌜ at + 26 ≤ length (now out) ⌝ }
+    ensures { λ r. ⌜ Wrote (now (out .entry)) at (freshText x) (now (out .exit)) r ⌝ }
+{
+    let bits = pattern_of(x.value);
+    let end = lines::put_field(out, at, b"fresh ", x.frame as usize);
+    put_pattern(out, end, bits)
+}
+
+fn put_reading(out: &mut [u8], at: usize, r: Reading) -> usize
+    requires { ⌜ at + 26 ≤ length (now out) ⌝ }
+    ensures { λ end. ⌜ Wrote (now (out .entry)) at (readingText r) (now (out .exit)) end ⌝ }
+{
+    match r {
+        Reading::Fresh(x) => put_fresh(out, at, x),
+        Reading::Pending => bytes::put(out, at, b"pending\n"),
+        Reading::Late => bytes::put(out, at, b"late\n"),
+        Reading::Missing => bytes::put(out, at, b"missing\n"),
+    }
+}
+
+fn put_answer(out: &mut [u8], at: usize, a: Answer) -> usize
+    requires { ⌜ at + refusedRoom ≤ length (now out) ⌝ }
+    ensures { λ r. ⌜ Wrote (now (out .entry)) at (answerText a) (now (out .exit)) r ⌝ }
+{
+    match a {
+        Answer::Done => bytes::put(out, at, b"accepted\n"),
+        Answer::Panel(id, away) => put_panel(out, at, id, away),
+        Answer::Rest => bytes::put(out, at, b"none\n"),
+        Answer::Read(r) => put_reading(out, at, r),
+        Answer::Refused(f) => lines::put_refused(out, at, f),
+    }
+}
+
+// Makes the call of a whole record, and writes its line at the front of `out`.
+fn show(frame: Frame, kind: CallKind, s: &[u8], out: &mut [u8]) -> Turn
+    requires { ⌜ (recordSize kind (now s) ≡ length (now s)) × (length (now out) ≡ lineRoom) ⌝ }
+    ensures { λ r. ⌜ Shows frame kind (now (s .entry)) (now (out .entry)) r (now (out .exit)) ⌝ }
+{
+    let step = called(frame, kind, s);
     let answer = step.answer;
-    write_word(byte(s, 0));
-    write_answer(answer);
-    step.frame
+    let after = step.frame;
+    let at = put_word(out, kind);
+    let size = put_answer(out, at, answer);
+    Turn {
+        frame: after,
+        gone: s.len(),
+        size,
+    }
+}
+
+fn put_stopped(out: &mut [u8], place: usize) -> usize
+    requires { ⌜ length (now out) ≡ lineRoom ⌝ }
+    ensures { λ r. ⌜ Wrote (now (out .entry)) 0 (stoppedLine place) (now (out .exit)) r ⌝ }
+{
+    let end = lines::put_field(out, 0, b"stopped at ", place);
+    bytes::put(out, end, b"\n")
+}
+
+// One turn at a place of the log, where `s` is what is left of it: the line of its first record, or the line that the run stops there.
+fn next_line(frame: Frame, at: usize, s: &[u8], out: &mut [u8]) -> Turn
+    requires { ⌜ length (now out) ≡ lineRoom ⌝ }
+    ensures { λ r. ⌜ TurnAt frame at (now (s .entry)) (now (out .entry)) r (now (out .exit)) ⌝ }
+{
+    let RecordRead::Whole(kind, size) = record_at(s) else {
+        let line = put_stopped(out, at);
+        return Turn {
+            frame,
+            gone: s.len(),
+            size: line,
+        };
+    };
+    show(frame, kind, &s[..size], out)
+}
+
+// Makes one turn and writes its line to standard output in one piece.
+fn shown(frame: Frame, at: usize, s: &[u8]) -> Turn
+    ensures { λ r. ⌜ Moved frame (now (s .entry)) r ⌝ }
+{
+    let mut out = [0u8; 64];
+    let turn = next_line(frame, at, s, &mut out);
+    let size = turn.size;
+    io::write_all(1, &out[..size]);
+    turn
 }
 
 // Makes the calls of a log from idle and writes a line for each, up to a record of unknown kind or with its body cut.
@@ -251,15 +322,9 @@ pub fn replay(log: &[u8]) -> Frame
     let mut at = 0;
     while at < log.len() {
         let rest = &log[at..];
-        let size = record_size(rest);
-        if size == 0 {
-            io::write_all(1, b"stopped at ");
-            io::print_decimal(1, at as u64);
-            io::write_all(1, b"\n");
-            return frame;
-        }
-        frame = shown(frame, &rest[..size]);
-        at += size;
+        let turn = shown(frame, at, rest);
+        frame = turn.frame;
+        at += turn.gone;
     }
     frame
 }

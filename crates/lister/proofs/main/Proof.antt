@@ -32,7 +32,9 @@ array-share-prefix-out : tie.Need-array-share-prefix-out
 array-share-prefix-out c = text-counts (c .before .m .given .0 .0) (c .before .before .before .before .list-plan .ensures) (c .before .m .given .1) .0
 
 slice-aggregate-write-all : tie.Need-slice-aggregate-write-all
-slice-aggregate-write-all c = text-counts (c .before .before .m .given .0 .0) (c .before .before .before .before .before .list-plan .ensures) (c .before .before .m .given .1) .1
+slice-aggregate-write-all c =
+    let m = c .before .before .m in
+    text-counts (m .given .0 .0) (c .before .before .before .before .before .list-plan .ensures) (m .given .1) .1
 
 write-all-requires : tie.Need-write-all-requires
 write-all-requires c κs = search needs

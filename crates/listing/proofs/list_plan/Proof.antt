@@ -23,10 +23,7 @@ enum-known-verdict : tie.Need-enum-known-verdict
 enum-known-verdict c = search needs
 
 put-refused-requires : tie.Need-put-refused-requires
-put-refused-requires c κs =
-    let s = c .before .before .before .before .before .before .before .before .before in
-    let e = refused-text (now (s .args .table)) _ (read-refused _ _ (c .before .before .before .before .before .read-table .ensures) _ (c .before .before .verdict .given .1)) in
-    omega (arith, ap length e, text-short (now (s .args .table)) (λ i. omega (arith, c .before .before .before .before .before .before .before .before .shared-slice-known .given i)))
+put-refused-requires c κs = search needs
 
 enum-told : tie.Need-enum-told
 enum-told c = search needs
@@ -43,7 +40,7 @@ put-made-requires c κs =
     let e = made-text (now (s .args .table)) _ w n _ (c .free-plan .ensures) in
     let known = c .before .before .before .before .before .before .before .before .shared-slice-known in
     let short = text-short (now (s .args .table)) (λ i. omega (arith, known .given i)) in
-    (free-few _ (w .sound) _ (c .free-plan .ensures), w .sound .few, omega (arith, ap length e, short))
+    ((free-few _ (w .sound) _ (c .free-plan .ensures), w .sound .few, omega (arith, ap length e, short)), search needs)
 
 same-length : tie.Need-same-length
 same-length c = search needs

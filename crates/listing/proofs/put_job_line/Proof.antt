@@ -7,10 +7,13 @@ use denote.Ref.{now}
 use lib.ListN.{length}
 use borrow.Author.Needs.{needs}
 use Rattle.model.specs.Timetable.{Placed, span, spanEnd, wait, finish}
+use Rattle.bytes.specs.Writing.{Wrote}
 use Rattle.bytes.specs.Decimals.{decimal}
-use Rattle.listing.specs.Listing.{choiceWord, space, pairLine}
+use Rattle.lines.specs.Lines.{space, pairLine}
+use Rattle.listing.specs.Listing.{choiceWord}
 use Rattle.listing.specs.Found.{placed}
-use Rattle.listing.proofs.Lines.{room-first, room-next, both, job-parts}
+use Rattle.bytes.proofs.Writing.{room-first, room-next, both}
+use Rattle.listing.proofs.Lines.{job-parts}
 use Rattle.listing.proofs.put_job_line.Statement.{statement}
 use Rattle.listing.proofs.put_job_line.Tie as tie
 
@@ -40,6 +43,11 @@ module _ (c : tie.Start) where
 
   room-two : c .args .at + length (id ++ start) ≤ length out
   room-two = room-first out (c .args .at) (id ++ start) times room
+
+  -- the id and the choice with the start, one after the other
+  front :
+      {a b : List ℕ} {p q : ℕ} → Wrote out (c .args .at) id a p → Wrote a p start b q → Wrote out (c .args .at) (id ++ start) b q
+  front = both out (c .args .at) id start room-two
 
 span-of-requires : tie.Need-span-of-requires
 span-of-requires c κs = search needs
@@ -80,23 +88,26 @@ slice-aggregate-put-pair-2 c = search needs
 
 put-pair-requires : tie.Need-put-pair-requires
 put-pair-requires c κs =
-    let p = c .before .before .before .before .before .before .before .before .before .before .before .before in
+    let b = c .before .before .before .before .before in
+    let a = b .before .before .before .before in
+    let p = a .before .before .before in
     let s = p .before .before .before in
     rw (added s (p .before .span-of .result) (p .wait-of .result) (p .before .span-of .ensures .0) (p .wait-of .ensures .0)) at
-    (room-next (out s) (s .args .at) (id s ++ start s) (times s) (room s)
-    (both (out s) (s .args .at) (id s) (start s) (room-two s) (c .before .before .before .before .before .before .before .before .before .put-number .ensures) (c .before .before .before .before .before .put-start .ensures)))
+    (room-next (out s) (s .args .at) (id s ++ start s) (times s) (room s) (front s (a .put-number .ensures) (b .put-start .ensures)))
 
 same-length : tie.Need-same-length
 same-length c = search needs
 
 returns : tie.Need-returns
 returns c =
-    let p = c .before .before .before .before .before .before .before .before .before .before .before .before .before .before .before in
+    let b = c .before .before .before .before .before .before .before .before in
+    let a = b .before .before .before .before in
+    let p = a .before .before .before in
     let s = p .before .before .before in
+    let sums = added s (p .before .span-of .result) (p .wait-of .result) (p .before .span-of .ensures .0) (p .wait-of .ensures .0) in
     rw (job-parts (what s))
-    (both (out s) (s .args .at) (id s ++ start s) (times s) (room s)
-    (both (out s) (s .args .at) (id s) (start s) (room-two s) (c .before .before .before .before .before .before .before .before .before .before .before .before .put-number .ensures) (c .before .before .before .before .before .before .before .before .put-start .ensures))
-    (rw (added s (p .before .span-of .result) (p .wait-of .result) (p .before .span-of .ensures .0) (p .wait-of .ensures .0)) (c .before .before .put-pair .ensures)))
+    (both (out s) (s .args .at) (id s ++ start s) (times s) (room s) (front s (a .put-number .ensures) (b .put-start .ensures))
+    (rw sums (c .before .before .put-pair .ensures)))
 
 pub put-job-line-spec : {M : Type 1} → statement M
 put-job-line-spec =

@@ -69,9 +69,10 @@ put-job-line-requires c κs =
     let start = c .before .before .before .before .before .before .before .before in
     let plan = start .args .t3 in
     let size = counted start in
+    let jobs = jobTable (start .args .t) .jobs in
     let step = getD-take (plan .count) (plan .steps) (l .i) noStep (omega arith) in (
       omega (arith, l .inv .early),
-      line-room (jobTable (start .args .t) .jobs) (stepsOf plan) (l .i) (omega arith) _ step _ (found (c .before)) (l .start) (start .pre .2) (l .inv),
+      line-room jobs (stepsOf plan) (l .i) (omega arith) _ step _ (found (c .before)) (l .start) (start .pre .2) (l .inv),
     )
 
 span-of-requires : tie.Need-span-of-requires Inv-loop μ-loop
@@ -96,8 +97,9 @@ loop-again c =
     let start = at-job .before .before .before .before .before .before .before in
     let plan = start .args .t3 in
     let size = counted start in
+    let jobs = jobTable (start .args .t) .jobs in
     let step = getD-take (plan .count) (plan .steps) (l .i) noStep (omega arith) in
-    kept-more (jobTable (start .args .t) .jobs) (stepsOf plan) (l .i) (omega arith) _ step _ (found at-job) (l .start) (start .pre .2) (l .inv)
+    kept-more jobs (stepsOf plan) (l .i) (omega arith) _ step _ (found at-job) (l .start) (start .pre .2) (l .inv)
     (c .span-of .ensures .0) (c .span-of .ensures .1) (c .before .before .before .put-job-line .ensures)
 
 same-length : tie.Need-same-length Inv-loop μ-loop

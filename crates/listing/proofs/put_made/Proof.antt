@@ -7,11 +7,10 @@ use Rattle.listing.proofs.put_made.Tie as tie
 put-plan-requires : tie.Need-put-plan-requires
 unfolding madeText
 put-plan-requires c κs =
-    (search needs, search needs, rw (c .before .if1 .taken) at (c .before .before .before .before .pre .2))
+    (search needs, search needs, rw (c .before .if1 .taken) at (c .before .before .before .before .pre .0 .2))
 
 put-refused-requires : tie.Need-put-refused-requires
-unfolding madeText
-put-refused-requires c κs = rw (c .before .if1 .left) at (c .before .before .before .before .pre .2)
+put-refused-requires c κs = search needs
 
 same-length : tie.Need-same-length
 same-length c = search needs

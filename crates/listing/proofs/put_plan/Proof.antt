@@ -5,12 +5,10 @@ use Prim.Native.Nat.{ℕ, _+_, _≤_}
 use native.Mathlib.Omega.{arith}
 use denote.Ref.{now}
 use lib.ListN.{length}
-use Rattle.model.specs.FreeOrder.{laid}
-use Rattle.table.specs.Tables.{jobTable}
-use Rattle.plan.specs.Plans.{stepsOf}
-use Rattle.listing.specs.Listing.{firstLine, jobLines, lastLine}
-use Rattle.listing.specs.Found.{chosenFor, draftText}
-use Rattle.listing.proofs.Lines.{room-first, room-next, both}
+use Rattle.bytes.specs.Writing.{Wrote}
+use Rattle.listing.specs.Listing.{firstLine, lastLine}
+use Rattle.listing.specs.Found.{stepLines, draftText}
+use Rattle.bytes.proofs.Writing.{room-first, room-next, both}
 use borrow.Author.Needs.{needs}
 use Rattle.listing.proofs.put_plan.Statement.{statement}
 use Rattle.listing.proofs.put_plan.Tie as tie
@@ -24,7 +22,7 @@ module _ (c : tie.Start) where
   one = firstLine (c .args .t .deadline) (c .args .t .count)
 
   abbrev two : List ℕ
-  two = jobLines (laid 0 (chosenFor (jobTable (c .args .t) .jobs) (stepsOf (c .args .draft .plan))))
+  two = stepLines (c .args .t) (c .args .draft .plan)
 
   abbrev three : List ℕ
   three = lastLine (c .args .draft .laid .busy) (c .args .draft .laid .last)
@@ -35,6 +33,10 @@ module _ (c : tie.Start) where
 
   room-two : 0 + length (one ++ two) ≤ length out
   room-two = room-first out 0 (one ++ two) three room
+
+  -- the first line and the job lines, one after the other
+  front : {a b : List ℕ} {p q : ℕ} → Wrote out 0 one a p → Wrote a p two b q → Wrote out 0 (one ++ two) b q
+  front = both out 0 one two room-two
 
 slice-aggregate-put-pair : tie.Need-slice-aggregate-put-pair
 slice-aggregate-put-pair c = search needs
@@ -69,9 +71,10 @@ cast-put-pair-3 c = search needs
 
 put-pair-requires-2 : tie.Need-put-pair-requires-2
 put-pair-requires-2 c κs =
-    let s = c .before .before .before .before .before .before .before .before .before .before .before .before .before .before .before .before .before .before .before in
-    room-next (out s) 0 (one s ++ two s) (three s) (room s)
-    (both (out s) 0 (one s) (two s) (room-two s) (c .before .before .before .before .before .before .before .before .before .before .before .put-pair .ensures) (c .before .before .before .before .before .before .before .put-lines .ensures))
+    let b = c .before .before .before .before .before .before .before in
+    let a = b .before .before .before .before in
+    let s = a .before .before .before .before .before .before .before .before in
+    room-next (out s) 0 (one s ++ two s) (three s) (room s) (front s (a .put-pair .ensures) (b .put-lines .ensures))
 
 same-length : tie.Need-same-length
 same-length c = search needs
@@ -79,10 +82,10 @@ same-length c = search needs
 returns : tie.Need-returns
 unfolding draftText
 returns c =
-    let s = c .before .before .before .before .before .before .before .before .before .before .before .before .before .before .before .before .before .before .before .before .before .before in
-    both (out s) 0 (one s ++ two s) (three s) (room s)
-    (both (out s) 0 (one s) (two s) (room-two s) (c .before .before .before .before .before .before .before .before .before .before .before .before .before .before .put-pair .ensures) (c .before .before .before .before .before .before .before .before .before .before .put-lines .ensures))
-    (c .before .before .put-pair2 .ensures)
+    let b = c .before .before .before .before .before .before .before .before .before .before in
+    let a = b .before .before .before .before in
+    let s = a .before .before .before .before .before .before .before .before in
+    both (out s) 0 (one s ++ two s) (three s) (room s) (front s (a .put-pair .ensures) (b .put-lines .ensures)) (c .before .before .put-pair2 .ensures)
 
 pub put-plan-spec : {M : Type 1} → statement M
 put-plan-spec =

@@ -1,146 +1,124 @@
 -- `replaying::event_of` meets its contract: each arm of the match is one line of `eventOf`. Assumes nothing.
 use Prim.Native.Nat.{ℕ}
+use native.Mathlib.Omega.{arith}
 use mathlib.Core.Path.{_≡_, sym, ap, _∙_}
 use mathlib.Core.List.{List}
 use denote.Ref.{now}
-use borrow.Author.Tests.{ne-eqb}
+use lib.ListN.{length, getD}
+use lib.Ieee.{Float}
+use Rattle.replaying.specs.declared.EventKind.{EventKind}
+use Rattle.replaying.specs.Log.{eventSize, valueOf, eventOf}
+use Rattle.bytes.specs.Numbers.{twoAt, fourAt}
 use Rattle.frame_record.specs.declared.Event.the-variants as E
-use Rattle.replaying.specs.Log.{byteAt, low16, low32, valueOf, eventOf}
+use Rattle.replaying.specs.declared.EventKind.the-variants as K
 use borrow.Author.Needs.{needs}
 use Rattle.replaying.proofs.event_of.Statement.{statement}
 use Rattle.replaying.proofs.event_of.Tie as tie
 
-at-0x42 : (s : List ℕ) (k : ℕ) → k ≡ 0x42 → eventOf s k ≡ E.SpanEnd (byteAt s 1) (low16 s 2) (valueOf (low32 s 4))
-unfolding eventOf
-at-0x42 s k e = ap (eventOf s) e
+-- the record has as many bytes as its kind says
+sized : (s : tie.Start) (k : EventKind) → s .args .kind ≡ k → eventSize k ≡ length (now (s .args .s))
+sized s k e = ap eventSize (sym e) ∙ s .pre
 
-at-0x43 : (s : List ℕ) (k : ℕ) → k ≡ 0x43 → eventOf s k ≡ E.Return (low32 s 1) (byteAt s 5) (low16 s 6) (valueOf (low32 s 8))
-unfolding eventOf
-at-0x43 s k e = ap (eventOf s) e
+-- the fields in the order of their places
+span-is : (s : List ℕ) (t n : ℕ) (v : Float) → t ≡ twoAt s 2 → n ≡ fourAt s 4 → v ≡ valueOf n → E.SpanEnd (getD s 1 0) t v ≡ eventOf K.Span s
+span-is s t n v e g h = rw (h, e, g)
 
-at-0x44 : (s : List ℕ) (k : ℕ) → k ≡ 0x44 → eventOf s k ≡ E.Close (low16 s 1)
-unfolding eventOf
-at-0x44 s k e = ap (eventOf s) e
+return-is :
+    (s : List ℕ) (f t n : ℕ) (v : Float) → f ≡ fourAt s 1 → t ≡ twoAt s 6 → n ≡ fourAt s 8 → v ≡ valueOf n →
+    E.Return f (getD s 5 0) t v ≡ eventOf K.Return s
+return-is s f t n v d e g h = rw (h, d, e, g)
 
-at-0x45 : (s : List ℕ) (k : ℕ) → k ≡ 0x45 → eventOf s k ≡ E.Read (byteAt s 1)
-unfolding eventOf
-at-0x45 s k e = ap (eventOf s) e
+enum-told : tie.Need-enum-told
+enum-told c = search needs
 
-at-rest : (s : List ℕ) (k : ℕ) → (k ≡ 0x42 → ⊥) → (k ≡ 0x43 → ⊥) → (k ≡ 0x44 → ⊥) → (k ≡ 0x45 → ⊥) → eventOf s k ≡ E.Next
-unfolding eventOf
-at-rest s k a b d e = simp (ne-eqb _ _ a, ne-eqb _ _ b, ne-eqb _ _ d, ne-eqb _ _ e)
+enum-told-2 : tie.Need-enum-told-2
+enum-told-2 c = search needs
 
-byte-requires : tie.Need-byte-requires
-byte-requires c κs = search needs
+shared-slice-read-t5 : tie.Need-shared-slice-read-t5
+shared-slice-read-t5 c = omega (arith, sized (c .before .before .before .before) _ (c .before .enum-told2 .given .1))
 
-byte-requires-2 : tie.Need-byte-requires-2
-byte-requires-2 c κs = search needs
+two-at-requires : tie.Need-two-at-requires
+two-at-requires c κs = omega (arith, sized (c .before .before .before .before) _ (c .before .enum-told2 .given .1))
 
-cast-t5 : tie.Need-cast-t5
-cast-t5 c = search needs
-
-two-requires : tie.Need-two-requires
-two-requires c κs = search needs
-
-cast-t7 : tie.Need-cast-t7
-cast-t7 c = search needs
-
-four-requires : tie.Need-four-requires
-four-requires c κs = search needs
+four-at-requires : tie.Need-four-at-requires
+four-at-requires c κs = omega (arith, sized (c .before .before .before .before .before) _ (c .before .before .enum-told2 .given .1))
 
 value-of-requires : tie.Need-value-of-requires
 value-of-requires c κs = search needs
 
-four-requires-2 : tie.Need-four-requires-2
-four-requires-2 c κs = search needs
+enum-told-3 : tie.Need-enum-told-3
+enum-told-3 c = search needs
 
-byte-requires-3 : tie.Need-byte-requires-3
-byte-requires-3 c κs = search needs
+four-at-requires-2 : tie.Need-four-at-requires-2
+four-at-requires-2 c κs = omega (arith, sized (c .before .before .before) _ (c .enum-told3 .given .1))
 
-cast-t12 : tie.Need-cast-t12
-cast-t12 c = search needs
+shared-slice-read-t11 : tie.Need-shared-slice-read-t11
+shared-slice-read-t11 c = omega (arith, sized (c .before .before .before .before .before) _ (c .before .before .enum-told3 .given .1))
 
-two-requires-2 : tie.Need-two-requires-2
-two-requires-2 c κs = search needs
+two-at-requires-2 : tie.Need-two-at-requires-2
+two-at-requires-2 c κs = omega (arith, sized (c .before .before .before .before .before) _ (c .before .before .enum-told3 .given .1))
 
-cast-t14 : tie.Need-cast-t14
-cast-t14 c = search needs
-
-four-requires-3 : tie.Need-four-requires-3
-four-requires-3 c κs = search needs
+four-at-requires-3 : tie.Need-four-at-requires-3
+four-at-requires-3 c κs = omega (arith, sized (c .before .before .before .before .before .before) _ (c .before .before .before .enum-told3 .given .1))
 
 value-of-requires-2 : tie.Need-value-of-requires-2
 value-of-requires-2 c κs = search needs
 
-two-requires-3 : tie.Need-two-requires-3
-two-requires-3 c κs = search needs
+enum-told-4 : tie.Need-enum-told-4
+enum-told-4 c = search needs
 
-cast-t18 : tie.Need-cast-t18
-cast-t18 c = search needs
+two-at-requires-3 : tie.Need-two-at-requires-3
+two-at-requires-3 c κs = omega (arith, sized (c .before .before .before) _ (c .enum-told4 .given .1))
 
-byte-requires-4 : tie.Need-byte-requires-4
-byte-requires-4 c κs = search needs
+enum-told-5 : tie.Need-enum-told-5
+enum-told-5 c = search needs
 
-cast-t20 : tie.Need-cast-t20
-cast-t20 c = search needs
+shared-slice-read-t17 : tie.Need-shared-slice-read-t17
+shared-slice-read-t17 c = omega (arith, sized (c .before .before .before .before) _ (c .before .enum-told5 .given .1))
 
 returns : tie.Need-returns
-returns c =
-    let s = now (c .before .before .before .before .before .before .before .args .s) in
-    let told : byteAt s 0 ≡ 0x42 = sym (c .before .before .before .before .before .byte .ensures .0) ∙ c .before .before .before .before .match .keys1 in
-    let goal : eventOf s (byteAt s 0) ≡ E.SpanEnd (byteAt s 1) (low16 s 2) (valueOf (low32 s 4)) = at-0x42 s (byteAt s 0) told in
-    cc
+returns c = search needs
 
 returns-2 : tie.Need-returns-2
 returns-2 c =
-    let s = now (c .before .before .before .before .before .before .before .before .args .s) in
-    let told : byteAt s 0 ≡ 0x43 = sym (c .before .before .before .before .before .before .byte .ensures .0) ∙ c .before .before .before .before .before .match .keys2 in
-    let goal : eventOf s (byteAt s 0) ≡ E.Return (low32 s 1) (byteAt s 5) (low16 s 6) (valueOf (low32 s 8)) = at-0x43 s (byteAt s 0) told in
-    cc
+    let start = c .before .before .before .before .before .before .before in
+    rw (c .before .before .before .before .enum-told2 .given .1)
+    (span-is (now (start .args .s)) _ _ _ (c .before .before .two-at .ensures) (c .before .four-at .ensures) (c .value-of .ensures))
 
 returns-3 : tie.Need-returns-3
 returns-3 c =
-    let s = now (c .before .before .before .before .args .s) in
-    let told : byteAt s 0 ≡ 0x44 = sym (c .before .before .byte .ensures .0) ∙ c .before .match .keys3 in
-    let goal : eventOf s (byteAt s 0) ≡ E.Close (low16 s 1) = at-0x44 s (byteAt s 0) told in
-    cc
+    let p = c .before .before .before .before in
+    let start = p .before .before .before .before in
+    rw (p .before .enum-told3 .given .1)
+    (return-is (now (start .args .s)) _ _ _ _ (p .four-at2 .ensures) (c .before .before .two-at2 .ensures) (c .before .four-at3 .ensures)
+    (c .value-of2 .ensures))
 
 returns-4 : tie.Need-returns-4
-returns-4 c =
-    let s = now (c .before .before .before .before .args .s) in
-    let told : byteAt s 0 ≡ 0x45 = sym (c .before .before .byte .ensures .0) ∙ c .before .match .keys4 in
-    let goal : eventOf s (byteAt s 0) ≡ E.Read (byteAt s 1) = at-0x45 s (byteAt s 0) told in
-    cc
+returns-4 c = rw (c .before .enum-told4 .given .1) (search needs)
 
 returns-5 : tie.Need-returns-5
-returns-5 c =
-    let s = now (c .before .before .before .args .s) in
-    let r = c .match .rest in
-    let e = c .before .byte .ensures .0 in
-    sym (ap (eventOf s) (sym e) ∙ at-rest s (c .before .byte .result) (r .0 .0 .0 .1) (r .0 .0 .1) (r .0 .1) (r .1))
+returns-5 c = rw (c .before .enum-told5 .given .1) (search needs)
 
 pub event-of-spec : {M : Type 1} → statement M
 event-of-spec =
     tie.close
     (tie.spec
-    byte-requires
-    byte-requires-2
-    cast-t5
-    two-requires
-    cast-t7
-    four-requires
+    enum-told
+    enum-told-2
+    shared-slice-read-t5
+    two-at-requires
+    four-at-requires
     value-of-requires
-    four-requires-2
-    byte-requires-3
-    cast-t12
-    two-requires-2
-    cast-t14
-    four-requires-3
+    enum-told-3
+    four-at-requires-2
+    shared-slice-read-t11
+    two-at-requires-2
+    four-at-requires-3
     value-of-requires-2
-    two-requires-3
-    cast-t18
-    byte-requires-4
-    cast-t20
+    enum-told-4
+    two-at-requires-3
+    enum-told-5
+    shared-slice-read-t17
     returns
     returns-2
     returns-3

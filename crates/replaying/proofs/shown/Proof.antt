@@ -1,26 +1,36 @@
--- `replaying::shown` meets its contract: the record is the one after the call. Assumes nothing.
-use mathlib.Core.Path.{ap}
-use Rattle.frame_record.specs.declared.Called.{Called}
+-- `replaying::shown` meets its contract: the line that is written out lies within the buffer. Assumes nothing.
+use native.Mathlib.Omega.{arith}
+use mathlib.Core.Path.{sym}
+use lib.Seq.{length-take-le}
 use borrow.Author.Needs.{needs}
 use Rattle.replaying.proofs.shown.Statement.{statement}
 use Rattle.replaying.proofs.shown.Tie as tie
 
-called-requires : tie.Need-called-requires
-called-requires c κs = search needs
+slice-aggregate-next-line : tie.Need-slice-aggregate-next-line
+slice-aggregate-next-line c = search needs
 
-byte-requires : tie.Need-byte-requires
-byte-requires c κs = search needs
+next-line-requires : tie.Need-next-line-requires
+next-line-requires c κs = search needs
 
-write-word-requires : tie.Need-write-word-requires
-write-word-requires c κs = search needs
+array-share-prefix-out : tie.Need-array-share-prefix-out
+array-share-prefix-out c = search needs
 
-write-answer-requires : tie.Need-write-answer-requires
-write-answer-requires c κs = search needs
+slice-aggregate-write-all : tie.Need-slice-aggregate-write-all
+slice-aggregate-write-all c = sym (length-take-le _ _ (search needs))
+
+write-all-requires : tie.Need-write-all-requires
+write-all-requires c κs = search needs
 
 returns : tie.Need-returns
-returns c = ap (λ (x : Called). x .frame) (c .before .before .before .before .called .ensures)
+returns c = search needs
 
 pub shown-spec : {M : Type 1} → statement M
 shown-spec =
     tie.close
-    (tie.spec called-requires byte-requires write-word-requires write-answer-requires returns)
+    (tie.spec
+    slice-aggregate-next-line
+    next-line-requires
+    array-share-prefix-out
+    slice-aggregate-write-all
+    write-all-requires
+    returns)

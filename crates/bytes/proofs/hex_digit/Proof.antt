@@ -1,0 +1,28 @@
+-- `bytes::hex_digit` meets its contract: below ten, and from ten on. Assumes nothing.
+use mathlib.Core.Path.{sym}
+use Rattle.bytes.proofs.Hex.{digit-low, digit-high}
+use borrow.Author.Needs.{needs}
+use Rattle.bytes.proofs.hex_digit.Statement.{statement}
+use Rattle.bytes.proofs.hex_digit.Tie as tie
+
+add-result : tie.Need-add-result
+add-result c = search needs
+
+cast-result : tie.Need-cast-result
+cast-result c = search needs
+
+returns : tie.Need-returns
+returns c = sym (digit-low _ (c .if1 .taken))
+
+add-result-2 : tie.Need-add-result-2
+add-result-2 c = search needs
+
+cast-result-2 : tie.Need-cast-result-2
+cast-result-2 c = search needs
+
+returns-2 : tie.Need-returns-2
+returns-2 c = sym (digit-high _ (c .if1 .left))
+
+pub hex-digit-spec : {M : Type 1} → statement M
+hex-digit-spec =
+    tie.close (tie.spec add-result cast-result returns add-result-2 cast-result-2 returns-2)

@@ -1,0 +1,13 @@
+-- `replaying::fitting` meets its contract: whole, or cut. Assumes nothing.
+use borrow.Author.Tests.{le-leb, lt-leb}
+use Rattle.replaying.proofs.fitting.Statement.{statement}
+use Rattle.replaying.proofs.fitting.Tie as tie
+
+returns : tie.Need-returns
+returns c = rw (le-leb _ _ (c .if1 .taken))
+
+returns-2 : tie.Need-returns-2
+returns-2 c = rw (lt-leb _ _ (c .if1 .left))
+
+pub fitting-spec : {M : Type 1} → statement M
+fitting-spec = tie.close (tie.spec returns returns-2)
