@@ -22,7 +22,8 @@ TOP = os.path.abspath(os.path.join(os.path.dirname(os.path.abspath(__file__)), '
 DOCUMENTS = sorted(glob.glob('*.md', root_dir=TOP) + glob.glob('*/README.md', root_dir=TOP) + glob.glob('docs/**/*.md', root_dir=TOP, recursive=True))
 FUNCTIONS = 'docs/FUNCTIONS.md'
 FORMS = 'docs/DECISIONS.md'
-ENTRIES = ['table', 'plan', 'planner', 'judge', 'frame', 'frame_lent', 'listing', 'replaying', 'panel']
+ENTRIES = ['table', 'plan', 'planner', 'judge', 'frame_record', 'frame_begin', 'frame_reports', 'frame_calls', 'frame_lent', 'listing', 'replaying',
+           'panel']
 troubles = []
 
 
@@ -68,7 +69,7 @@ def check_signatures(tree):
     printed = section(FUNCTIONS, 'Entry points, with the types of what they take').split('```')[1].split('\n')[1:-1]
     entries = [f for f in tree.functions if f.public and not f.program and f.crate in ENTRIES and ' requires ' not in f.contract]
     found = [path_of(f).rsplit('::', 1)[0] + ': ' + re.split(' (?:requires|ensures) ', f.contract)[0].strip() for f in entries]
-    events = re.search(r'pub enum Event \{.*?\n\}', tree.texts['crates/frame/src/lib.rt'], re.S)[0]
+    events = re.search(r'pub enum Event \{.*?\n\}', tree.texts['crates/frame_record/src/lib.rt'], re.S)[0]
     compare(f'{FUNCTIONS}, entry points', set(found + [' '.join(events.split())]), set(printed))
 
 

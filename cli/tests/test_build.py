@@ -84,8 +84,8 @@ class Crates(Case):
     def test_only_what_is_needed(self):
         needed = build.needed('panel')
         self.assertEqual((needed[0], needed[-1]), ('model', 'panel'))
-        self.assertFalse({'frame', 'trial', 'io'} & set(needed))
-        self.assertIn('frame', build.needed('replay'))
+        self.assertFalse({'frame_record', 'trial', 'io'} & set(needed))
+        self.assertIn('frame_calls', build.needed('replay'))
 
     def test_progress_by_crate(self):
         lines = ['fn model::f: proved\n', 'rt: model proved (7 s)\n',

@@ -26,12 +26,14 @@ use Rattle.table.specs.Refusals.{Outcome, accepted, refused}
 use Rattle.table.specs.Records.{used}
 use Rattle.table.specs.Tables.{JobTable, GoodTable, jobId}
 use Rattle.table.proofs.Listed.{Distinct, unused-differs, differs-unused}
+use Rattle.lookup.specs.Lookup.{jobOf, withKey}
+use Rattle.lookup.proofs.Lookup.{with-own}
 use Rattle.plan.specs.declared.Step.{Step}
 use Rattle.plan.specs.Plans.{stepId, stepsFor}
 use Rattle.judge.specs.declared.Checked.{Checked}
 use Rattle.judge.specs.declared.Checked.the-variants.{Passes, Fails}
-use Rattle.judge.specs.Check.{jobOf, chosenBy, before, listed, lacksOne, timed, afterPlan, afterTable, checkPlan}
-use Rattle.judge.proofs.Jobs.{job-found, Named, perm-members, listed-from, lacks-that, none-left, all-or-left}
+use Rattle.judge.specs.Check.{chosenBy, before, listed, lacksOne, timed, afterPlan, afterTable, checkPlan}
+use Rattle.judge.proofs.Jobs.{Named, perm-members, listed-from, lacks-that, none-left, all-or-left}
 use Rattle.faults.specs.Faults.{Byte, TableIs, PlanIs}
 use Rattle.faults.specs.Checks.{StepFault, stranger, kept, RunsOnTime, StepOk, PlanOf, fullRun, Misfit, at-step, left, late, CheckIs, no-table, no-plan}
 use Rattle.faults.specs.Checks.{misfit, passes}
@@ -81,19 +83,19 @@ steps-are js (x ∷ xs) h =
 
 -- no job has the id
 job-none : (js : List Job) (id : ℕ) → All (λ (j : Job). ¬ (j .id ≡ id)) js → jobOf js id ≡ none
-unfolding jobOf
+unfolding withKey
 job-none [] id h = refl
 job-none (j ∷ js) id h = rw (ne-eqb (j .id) id (h .0)) (job-none js id (h .1))
 
 module _ (js : List Job) (distinct : Distinct jobId js) where
   named : (cs : List Chosen) → All (λ (c : Chosen). List·Memᴰ (c .job) js) cs → All (Named js) cs
-  named cs h = all-map (λ c m. job-found js (c .job) distinct m) cs h
+  named cs h = all-map (λ c m. with-own jobId js (c .job) distinct m) cs h
 
   -- a step with a fault is refused for it
   step-refused : (x : Step) (f : Refusal) → StepFault js x f → chosenBy x (jobOf js (x .id)) ≡ refused f
   step-refused x f (stranger h) = rw (job-none js (x .id) h)
   step-refused x f (kept j m e here away) =
-      let found : jobOf js (x .id) ≡ some j = subst (λ (n : ℕ). jobOf js n ≡ some j) e (job-found js j distinct m) in
+      let found : jobOf js (x .id) ≡ some j = subst (λ (n : ℕ). jobOf js n ≡ some j) e (with-own jobId js j distinct m) in
       rw found (go (x .away) (isEither j) away here)
     where
       go : (w i : Bool) → w ≡ true → i ≡ false → cond (w && not i) (refused Kept) (accepted (chosen j w)) ≡ refused Kept

@@ -12,7 +12,7 @@ use lib.Seq.{append-snoc, drop-at}
 use lib.Dec.{eqb, ltb}
 use borrow.Author.Tests.{eqb-true, eqb-false, ltb-true, ltb-false, lt-leb}
 use Rattle.model.specs.Lists.{All}
-use Rattle.model.proofs.Lists.{all-map, all-append, pairwise-append}
+use Rattle.model.proofs.Lists.{all-map, all-append, pairwise-append, member-all}
 use Rattle.table.specs.declared.refusal.Place.{Place}
 use Rattle.table.specs.declared.refusal.Refusal.{Refusal}
 use Rattle.table.specs.declared.refusal.Refusal.the-variants.{Range, Many, After}
@@ -23,7 +23,6 @@ use Rattle.table.specs.Records.{formOf, judged, Entry, one, last, bad, listFrom
 use Rattle.table.proofs.Records as records
 use Rattle.table.proofs.Listed.{used-member, flat-more, list-step, over, overAll, readOn, good-read}
 use Rattle.table.proofs.ReadBack.{kind-byte, long}
-use Rattle.judge.proofs.Jobs.{member-all}
 use Rattle.faults.specs.Faults.{joined, behind, Unread, no-byte, not-allowed, cut, Faulty, unread, many, range, twice, after, GoodList, ListFault, fault}
 
 -- one of a list has a number, or none has

@@ -9,7 +9,7 @@ use mathlib.Core.Option.{none, some}
 use lib.ListN.{length, drop}
 use borrow.Author.Tests.{le-ltb}
 use Rattle.model.specs.Lists.{All}
-use Rattle.model.proofs.Lists.{all-all}
+use Rattle.model.proofs.Lists.{all-all, member-all}
 use Rattle.table.specs.declared.refusal.Place.{Place}
 use Rattle.table.specs.declared.refusal.Refusal.{Refusal}
 use Rattle.table.specs.declared.refusal.Refusal.the-variants.{Many}
@@ -25,7 +25,6 @@ use Rattle.plan.specs.declared.RecordRead.the-variants.{RecordRefused}
 use Rattle.plan.specs.Plans.{stepBody, recordAt, stepEntry, stepId, readPlan, stepBytes}
 use Rattle.plan.proofs.Steps.{planEntry}
 use Rattle.plan.proofs.Plans.{plan-flat, opens, step-back, end-back, plan-back}
-use Rattle.judge.proofs.Jobs.{member-all}
 use Rattle.faults.specs.Faults.{stepKinds, Unread, NoTimes, GoodPlan, PlanFault, PlanIs}
 use Rattle.faults.proofs.Files.{Whole, listed-or-fault, unread-refused, fault-refused, exactly, exactly-one}
 

@@ -13,7 +13,7 @@ use Rattle.model.specs.declared.Sending.{Sending}
 use Rattle.model.specs.declared.Sending.the-variants.{HereOnly, Either}
 use Rattle.model.specs.declared.Job.{Job}
 use Rattle.model.specs.Lists.{All}
-use Rattle.model.proofs.Lists.{clash}
+use Rattle.model.proofs.Lists.{clash, member-all}
 use Rattle.table.specs.declared.refusal.Place.{Place}
 use Rattle.table.specs.declared.refusal.Refusal.{Refusal}
 use Rattle.table.specs.declared.refusal.Refusal.the-variants.{Range, Many}
@@ -31,7 +31,6 @@ use Rattle.table.proofs.Records.{rowByte, form-all, frame-form, opened}
 use Rattle.table.proofs.Tables.{both, rowEntry}
 use Rattle.table.proofs.Written.{word-parts, jobs-flat}
 use Rattle.table.proofs.ReadBack.{word, row-open, job-any, job-back, end-back, word-whole, bytes-read}
-use Rattle.judge.proofs.Jobs.{member-all}
 use Rattle.faults.specs.Faults.{Byte, joined, behind, frameKinds, rowKinds, Unread, ListFault, fault, GoodList, DeadlineOk, frameBytes}
 use Rattle.faults.specs.Faults.{TableFault, in-frame, deadline, in-row, TableIs}
 use Rattle.faults.proofs.Files.{Whole, unread-or-whole, listed-or-fault, unread-refused, fault-refused, exactly, exactly-one}

@@ -16,21 +16,22 @@ use Rattle.table.specs.Records.{used}
 use Rattle.table.specs.Tables.{JobTable}
 use Rattle.plan.specs.declared.Step as plan
 use Rattle.plan.specs.Plans.{stepId, noStep}
-use Rattle.frame.specs.Sound.{entryAt, placeAt, entryId, open?}
-use Rattle.frame.specs.Listed.{MayStand, planEntry}
-use Rattle.frame.specs.Step.{judge, standing, moved, panelPlace, panelEntry}
-use Rattle.frame.specs.Step as step
-use Rattle.frame.specs.Begin.{awayIn, awayAt, entriesOf, orderOf, begun}
-use Rattle.frame.specs.declared.Phase.the-variants.{Idle, Open, Closed}
-use Rattle.frame.specs.declared.Standing.{Standing}
-use Rattle.frame.specs.declared.Standing.the-variants.{Waiting, Out, Held, Late}
-use Rattle.frame.specs.declared.Entry.{Entry}
-use Rattle.frame.specs.declared.Frame.{Frame}
-use Rattle.frame.specs.declared.Event.the-variants as E
-use Rattle.frame.proofs.Laws.{first-found}
-use Rattle.frame.proofs.Passed.{Passed}
-use Rattle.frame.proofs.Sound.{open-parts}
-use Rattle.frame.proofs.Reached.{Fine, moved-here, moved-other, moved-id, moved-away, entry-at, place-inside, has-id}
+use Rattle.frame_record.specs.Sound.{entryAt, placeAt, entryId, open?}
+use Rattle.frame_record.specs.Listed.{MayStand, planEntry}
+use Rattle.frame_record.specs.Sound.{panelPlace, panelEntry}
+use Rattle.frame_reports.specs.Reports.{judge, standing, moved}
+use Rattle.frame_calls.specs.Calls as calls
+use Rattle.frame_begin.specs.Begin.{awayIn, awayAt, entriesOf, placesOf, begun}
+use Rattle.frame_record.specs.declared.Phase.the-variants.{Idle, Open, Closed}
+use Rattle.frame_record.specs.declared.Standing.{Standing}
+use Rattle.frame_record.specs.declared.Standing.the-variants.{Waiting, Out, Held, Late}
+use Rattle.frame_record.specs.declared.Entry.{Entry}
+use Rattle.frame_record.specs.declared.Frame.{Frame}
+use Rattle.frame_record.specs.declared.Event.the-variants as E
+use Rattle.lookup.proofs.Lookup.{first-found}
+use Rattle.frame_begin.proofs.Passed.{Passed}
+use Rattle.frame_record.proofs.Sound.{open-parts}
+use Rattle.frame_promises.proofs.Reached.{Fine, moved-here, moved-other, moved-id, moved-away, entry-at, place-inside, has-id}
 use Rattle.frame_promises.specs.History.{Report, Last, History, idle, opened, closed, since, reportOf, happens}
 use Rattle.frame_promises.proofs.Laws.{used-head, used-tail, without-gone, without-other, report-same, report-other}
 
@@ -203,7 +204,7 @@ module _ (f : Frame) (fine : Fine f) (o : open? f ≡ true) (b : Last) (a : Agre
         (without-gone (b .out) id) (without-other (b .out) id) refl,
   )
 
-  pub is-closed : (t : ℕ) → Agrees (step.closed f t) (since b t (b .to-come) (b .out) (b .reports))
+  pub is-closed : (t : ℕ) → Agrees (calls.closed f t) (since b t (b .to-come) (b .out) (b .reports))
   is-closed t = record {
     numbered = a .numbered;
     clocked = refl;
@@ -229,7 +230,7 @@ module _ (number : ℕ) (t : JobTable) (xs : List plan.Step) (p : Passed t xs) w
   es = entriesOf (t .jobs) xs N
 
   abbrev order : List ℕ
-  order = orderOf es xs N
+  order = placesOf (t .jobs) xs N
 
   -- the plan's step of a job is found by its id
   sends : (k : ℕ) → k < N → awayIn xs N ((getD xs k noStep) .id) ≡ (getD xs k noStep) .away

@@ -13,14 +13,14 @@ use Rattle.model.specs.declared.Job.{Job}
 use Rattle.table.specs.Refusals as outcome
 use Rattle.table.specs.Refusals.{Outcome, accepted}
 use Rattle.table.specs.Tables.{JobTable, readTable}
+use Rattle.lookup.specs.Lookup.{jobOf}
 use Rattle.plan.specs.declared.Step as plan
 use Rattle.plan.specs.Plans.{stepId, readPlan}
-use Rattle.judge.specs.Check.{jobOf}
-use Rattle.frame.specs.Finite.{finite?}
-use Rattle.frame.specs.Step.{Reply, says}
-use Rattle.frame.specs.Run.{Call, begin, event}
-use Rattle.frame.specs.declared.Event.{Event}
-use Rattle.frame.specs.declared.Event.the-variants as E
+use Rattle.frame_record.specs.Finite.{finite?}
+use Rattle.frame_record.specs.Answers.{Reply, says}
+use Rattle.frame_promises.specs.Call.{Call, begin, event}
+use Rattle.frame_record.specs.declared.Event.{Event}
+use Rattle.frame_record.specs.declared.Event.the-variants as E
 use Rattle.frame_promises.specs.History.{Turn, Report, Last, History, idle, opened, closed, fresh, onClock, valued, spanEnds, returns, reading}
 use Rattle.frame_promises.specs.History.{readIn, reply}
 use Rattle.frame_promises.specs.History.{opens, since, spanEnded, without, happens, accepts, isAccepted, told, reportOf}

@@ -14,9 +14,9 @@ use Rattle.table.proofs.Refusals.{says-not-zero}
 use Rattle.judge.specs.declared.Checked.{Checked}
 use Rattle.judge.specs.declared.Checked.the-variants as checked
 use Rattle.judge.specs.Check.{checkedSays, checkPlan}
-use Rattle.frame.specs.Step.{Reply, says}
-use Rattle.frame.specs.Run.{begin}
-use Rattle.frame.proofs.Laws.{false-true}
+use Rattle.frame_record.specs.Answers.{Reply, says}
+use Rattle.frame_promises.specs.Call.{begin}
+use Rattle.frame_record.proofs.Laws.{false-true}
 use Rattle.frame_promises.specs.History.{Turn, Last, History, idle, opened, closed, done, refuse, begins, reply, isAccepted, history}
 use Rattle.frame_promises.specs.Runs.{FromIdle}
 use Rattle.frame_promises.specs.Own.{NotOpen, none-begun, was-closed, AboveLast, Passes, MayBegin}

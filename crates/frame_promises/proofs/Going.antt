@@ -19,11 +19,11 @@ use Rattle.table.specs.Records.{used}
 use Rattle.table.specs.Tables.{JobTable}
 use Rattle.plan.specs.declared.Step.{Step}
 use Rattle.plan.specs.Plans.{stepId, noStep, stepOf}
-use Rattle.frame.specs.Finite.{finite?}
-use Rattle.frame.specs.Step.{Reply}
-use Rattle.frame.specs.Run.{event}
-use Rattle.frame.specs.declared.Event.the-variants as E
-use Rattle.frame.proofs.Passed.{Passed}
+use Rattle.frame_record.specs.Finite.{finite?}
+use Rattle.frame_record.specs.Answers.{Reply}
+use Rattle.frame_promises.specs.Call.{event}
+use Rattle.frame_record.specs.declared.Event.the-variants as E
+use Rattle.frame_begin.proofs.Passed.{Passed}
 use Rattle.frame_promises.specs.History.{Turn, Report, Last, History, idle, opened, closed, done, onClock, spanEnds, fresh, reads, reply}
 use Rattle.frame_promises.specs.History.{since, spanEnded, without, accepts, isAccepted, told, reportOf}
 use Rattle.frame_promises.specs.Own.{Doing, doingAt, idAt, awayAt, valueAt, spanTime, backTime, Quiet, asks-next, asks-read, asks-begin}

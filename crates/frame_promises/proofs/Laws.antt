@@ -14,10 +14,10 @@ use Rattle.table.specs.Records.{used}
 use Rattle.table.specs.declared.refusal.Refusal.{Refusal}
 use Rattle.table.specs.Refusals.{refusalSays}
 use Rattle.table.proofs.Refusals.{says-numbered}
-use Rattle.judge.specs.Check.{jobOf}
-use Rattle.frame.specs.Step.{says}
-use Rattle.frame.specs.Run.{Call}
-use Rattle.frame.proofs.Laws.{false-true}
+use Rattle.lookup.specs.Lookup.{jobOf, withKey}
+use Rattle.frame_record.specs.Answers.{says}
+use Rattle.frame_promises.specs.Call.{Call}
+use Rattle.frame_record.proofs.Laws.{false-true}
 use Rattle.frame_promises.specs.History.{Report, History, isAccepted, told, reportOf, without}
 
 -- a refused call is not accepted, and changes nothing
@@ -75,7 +75,7 @@ module _ (r : Report) (rs : List Report) (id : ℕ) where
 -- ---- a table has the job at a position, and no job of an id that no position has
 
 pub in-table : (js : List Job) (id i : ℕ) → i < length js → (getD js i noJob) .id ≡ id → (j : Job) × (jobOf js id ≡ some j)
-unfolding jobOf
+unfolding withKey
 in-table [] id i h e = absurd (omega arith)
 in-table (x ∷ js) id zero h e = (x, rw (eq-eqb (x .id) id e))
 in-table (x ∷ js) id (suc i) h e = step (eqb (x .id) id) (in-table js id i (omega arith) e)
@@ -85,7 +85,7 @@ in-table (x ∷ js) id (suc i) h e = step (eqb (x .id) id) (in-table js id i (om
     step false on = on
 
 pub not-in-table : (js : List Job) (id : ℕ) → ((i : ℕ) → i < length js → (getD js i noJob) .id ≡ id → ⊥) → jobOf js id ≡ none
-unfolding jobOf
+unfolding withKey
 not-in-table [] id others = refl
 not-in-table (x ∷ js) id others =
     rw (ne-eqb (x .id) id (others 0 (omega arith))) (not-in-table js id (λ i h. others (suc i) (omega arith)))

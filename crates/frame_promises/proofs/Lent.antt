@@ -2,15 +2,15 @@
 -- every promise of this crate is made of it too. Assumes nothing.
 use mathlib.Core.Path.{_≡_}
 use mathlib.Core.List.{List, [], _∷_, map}
-use Rattle.frame.specs.Run.{Call, begin, event}
-use Rattle.frame.specs.declared.Frame.{Frame}
-use Rattle.frame.specs.declared.Step.{Step}
+use Rattle.frame_promises.specs.Call.{Call, begin, event}
+use Rattle.frame_record.specs.declared.Frame.{Frame}
+use Rattle.frame_record.specs.declared.Called.{Called}
 use Rattle.frame_promises.specs.History.{Turn, idle, replies}
 use Rattle.frame_promises.specs.Runs.{Allows, Runs, FromIdle}
 use Rattle.frame_promises.specs.Lent.{LentAllows, LentFromIdle}
 use Rattle.frame_promises.proofs.Replies.{replies-told}
 
-same-step : (f : Frame) (c : Call) (s : Step) → LentAllows f c s → Allows f c s
+same-step : (f : Frame) (c : Call) (s : Called) → LentAllows f c s → Allows f c s
 same-step f (begin table plan n) s e = e
 same-step f (event x) s e = e
 

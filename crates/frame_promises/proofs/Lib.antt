@@ -1,3 +1,6 @@
+pub mod Cases
+pub mod Refused
+pub mod Reached
 pub mod Laws
 pub mod Since
 pub mod Agrees

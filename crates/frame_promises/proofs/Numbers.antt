@@ -15,10 +15,10 @@ use Rattle.plan.specs.Plans.{readPlan}
 use Rattle.judge.specs.declared.Checked.{Checked}
 use Rattle.judge.specs.declared.Checked.the-variants.{Passes, Fails}
 use Rattle.judge.specs.Check.{checkPlan}
-use Rattle.frame.specs.Run.{Call, begin, event}
-use Rattle.frame.specs.declared.Event.{Event}
-use Rattle.frame.specs.declared.Event.the-variants as E
-use Rattle.frame.proofs.Laws.{false-true}
+use Rattle.frame_promises.specs.Call.{Call, begin, event}
+use Rattle.frame_record.specs.declared.Event.{Event}
+use Rattle.frame_record.specs.declared.Event.the-variants as E
+use Rattle.frame_record.proofs.Laws.{false-true}
 use Rattle.frame_promises.specs.History.{Turn, Last, History, idle, opened, closed, begins, spanEnded, happens, opens, accepts, isAccepted, told, reply}
 use Rattle.frame_promises.specs.Runs.{FromIdle}
 use Rattle.frame_promises.specs.Sequences.{numberOf, begunIn, Rising}

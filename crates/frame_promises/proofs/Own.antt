@@ -13,7 +13,7 @@ use Rattle.model.specs.Timetable.{Chosen}
 use Rattle.model.specs.Positions.{noChoice}
 use Rattle.model.specs.FreeOrder.{busy, lastFrom}
 use Rattle.model.specs.Run.{Took, RunOf, OnTime}
-use Rattle.model.proofs.Lists.{clash, all-at}
+use Rattle.model.proofs.Lists.{clash, all-at, member-all}
 use Rattle.model.proofs.PlanOrder.{jobOf as theJob}
 use Rattle.table.specs.Refusals.{Outcome, accepted}
 use Rattle.table.specs.Tables.{JobTable, readTable}
@@ -24,16 +24,16 @@ use Rattle.plan.specs.Plans.{noStep, readPlan, stepOf, stepsFor}
 use Rattle.judge.specs.declared.Checked.{Checked}
 use Rattle.judge.specs.declared.Checked.the-variants as checked
 use Rattle.judge.specs.Check.{checkedSays, afterPlan, checkPlan}
-use Rattle.judge.proofs.Jobs.{member-all, perm-members}
+use Rattle.judge.proofs.Jobs.{perm-members}
 use Rattle.faults.proofs.Tables.{table-read}
 use Rattle.faults.proofs.Plans.{plan-read}
 use Rattle.faults.proofs.Says.{pass-iff-runs, pass-or-late}
-use Rattle.frame.specs.Finite.{finite?}
-use Rattle.frame.specs.Step.{Reply, says}
-use Rattle.frame.specs.Begin.{stepsIn}
-use Rattle.frame.specs.Run.{Call, begin, event}
-use Rattle.frame.specs.declared.Event.the-variants as E
-use Rattle.frame.proofs.Passed.{Passed, passed}
+use Rattle.frame_record.specs.Finite.{finite?}
+use Rattle.frame_record.specs.Answers.{Reply, says}
+use Rattle.frame_begin.specs.Begin.{stepsIn}
+use Rattle.frame_promises.specs.Call.{Call, begin, event}
+use Rattle.frame_record.specs.declared.Event.the-variants as E
+use Rattle.frame_begin.proofs.Passed.{Passed, passed}
 use Rattle.frame_promises.specs.History.{Turn, Last, History, idle, opened, closed, done, fresh, reply, accepts, isAccepted, told, history}
 use Rattle.frame_promises.specs.Runs.{FromIdle}
 use Rattle.frame_promises.specs.Own.{MayBegin, Planned, Doing, runOf, noDoing, doingAt, jobAt, idAt, valueAt, backTime, spanTime, spanCall, backCall}

@@ -13,13 +13,13 @@ use borrow.Author.Tests.{leb-true, leb-false, ltb-true, ltb-false}
 use lib.ListN.{length}
 use lib.Dec.{leb, ltb}
 use Rattle.model.specs.Lists.{All, Pairwise}
-use Rattle.model.proofs.Lists.{clash, all-map, all-zip}
+use Rattle.model.proofs.Lists.{clash, all-map, all-zip, member-all}
 use Rattle.model.proofs.Permutations.{all-perm, pairwise-perm, length-perm}
-use Rattle.judge.proofs.Jobs.{member-all, perm-members}
-use Rattle.frame.specs.Step.{Reply, answerSays}
-use Rattle.frame.specs.Run.{Call, begin, event, stepOf}
-use Rattle.frame.specs.declared.Frame.{Frame}
-use Rattle.frame.specs.declared.Step.{Step}
+use Rattle.judge.proofs.Jobs.{perm-members}
+use Rattle.frame_record.specs.Answers.{Reply, answerSays}
+use Rattle.frame_promises.specs.Call.{Call, begin, event, calledOf}
+use Rattle.frame_record.specs.declared.Frame.{Frame}
+use Rattle.frame_record.specs.declared.Called.{Called}
 use Rattle.frame_promises.specs.History.{Turn, done}
 use Rattle.frame_promises.specs.Runs.{Allows, Runs, FromIdle}
 use Rattle.frame_promises.specs.Own.{MayBegin, Doing, awayAt, valueAt, spanTime, backTime, spanCall, backCall, Plays, over, spans, backs}
@@ -30,14 +30,14 @@ callsOf ts = map (λ (t : Turn). t .call) ts
 
 -- ---- every sequence of calls is answered
 
-is-allowed : (f : Frame) (c : Call) → Allows f c (stepOf c f)
+is-allowed : (f : Frame) (c : Call) → Allows f c (calledOf c f)
 is-allowed f (begin table plan n) = refl
 is-allowed f (event e) = refl
 
 goes-on : (before : List Turn) (f : Frame) → Runs Allows f before → (cs : List Call) → (us : List Turn) × Runs Allows f (before ++ us) × (callsOf us ≡ cs)
 goes-on [] f r [] = ([], tt, refl)
 goes-on [] f r (c ∷ cs) =
-    let s : Step = stepOf c f in
+    let s : Called = calledOf c f in
     let w = goes-on [] (s .frame) tt cs in
     (record { call = c; said = answerSays (s .answer) } ∷ w .0, (s, is-allowed f c, refl, w .1), ap (λ (l : List Call). c ∷ l) (w .2))
 goes-on (t ∷ before) f (s, may, said, r) cs = let w = goes-on before (s .frame) r cs in (w .0, (s, may, said, w .1), w .2)

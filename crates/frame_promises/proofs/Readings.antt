@@ -12,16 +12,15 @@ use lib.Dec.{leb, eqb}
 use lib.Ieee.{Float}
 use Rattle.model.specs.declared.Job.{Job}
 use Rattle.model.specs.Lists.{All}
-use Rattle.model.proofs.Lists.{clash}
+use Rattle.model.proofs.Lists.{clash, member-all}
 use Rattle.table.specs.Refusals as outcome
 use Rattle.table.specs.Tables.{JobTable, readTable}
+use Rattle.lookup.specs.Lookup.{jobOf, withKey}
 use Rattle.plan.specs.declared.Step as plan
 use Rattle.plan.specs.Plans.{readPlan}
-use Rattle.judge.specs.Check.{jobOf}
-use Rattle.judge.proofs.Jobs.{member-all}
-use Rattle.frame.specs.Step.{Reply, says}
-use Rattle.frame.specs.Run.{begin, event}
-use Rattle.frame.specs.declared.Event.the-variants as E
+use Rattle.frame_record.specs.Answers.{Reply, says}
+use Rattle.frame_promises.specs.Call.{begin, event}
+use Rattle.frame_record.specs.declared.Event.the-variants as E
 use Rattle.frame_promises.specs.History.{Turn, Report, Last, History, idle, opened, closed, fresh, reading, readIn, reads, reply}
 use Rattle.frame_promises.specs.History.{isAccepted, history, reportOf}
 use Rattle.frame_promises.specs.Runs.{FromIdle}
@@ -33,7 +32,7 @@ use Rattle.frame_promises.proofs.Replies.{reads-told, traced}
 -- ---- the job of an id
 
 has-job : (js : List Job) (id : ℕ) (j : Job) → jobOf js id ≡ some j → Has js id
-unfolding jobOf
+unfolding withKey
 has-job [] id j e = clash (cc)
 has-job (x ∷ js) id j e = step (eqb (x .id) id) refl e (has-job js id j)
   where
@@ -42,7 +41,7 @@ has-job (x ∷ js) id j e = step (eqb (x .id) id) refl e (has-job js id j)
     step false q e on = let r = on e in (r .0, List·Memᴰ·tail (r .1), r .2)
 
 job-has : (js : List Job) (id : ℕ) (j : Job) → List·Memᴰ j js → j .id ≡ id → (i : Job) × (jobOf js id ≡ some i)
-unfolding jobOf
+unfolding withKey
 job-has (x ∷ js) id j (List·Memᴰ·head e) is = (x, rw (eq-eqb (x .id) id (ap (λ (y : Job). y .id) (sym e) ∙ is)))
 job-has (x ∷ js) id j (List·Memᴰ·tail m) is = step (eqb (x .id) id) (job-has js id j m is)
   where

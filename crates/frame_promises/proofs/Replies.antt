@@ -3,12 +3,12 @@
 use Prim.Native.Nat.{ℕ}
 use mathlib.Core.Path.{_≡_, refl, sym, _∙_, ap, subst}
 use mathlib.Core.List.{List, [], _∷_, _++_, map, append-assoc, append-nil}
-use Rattle.frame.specs.Step.{Reply, answerSays}
-use Rattle.frame.specs.Run.{Call, begin, event, stepOf}
-use Rattle.frame.specs.declared.Frame.{Frame}
-use Rattle.frame.specs.declared.Event.the-variants as E
-use Rattle.frame.specs.declared.Step.{Step}
-use Rattle.frame.proofs.Reached.{Fine, call-fine, idle-fine}
+use Rattle.frame_record.specs.Answers.{Reply, answerSays}
+use Rattle.frame_promises.specs.Call.{Call, begin, event, calledOf}
+use Rattle.frame_record.specs.declared.Frame.{Frame}
+use Rattle.frame_record.specs.declared.Event.the-variants as E
+use Rattle.frame_record.specs.declared.Called.{Called}
+use Rattle.frame_promises.proofs.Reached.{Fine, call-fine, idle-fine}
 use Rattle.frame_promises.specs.History.{Turn, History, idle, reply, told, history, replies}
 use Rattle.frame_promises.specs.Runs.{Allows, Runs, FromIdle}
 use Rattle.frame_promises.proofs.Agrees.{Tells}
@@ -16,7 +16,7 @@ use Rattle.frame_promises.proofs.Told.{fits, clear}
 use Rattle.frame_promises.proofs.Since.{Traced, turn-on}
 
 -- what the contract allows is the step
-allowed : (f : Frame) (c : Call) (s : Step) → Allows f c s → s ≡ stepOf c f
+allowed : (f : Frame) (c : Call) (s : Called) → Allows f c s → s ≡ calledOf c f
 allowed f (begin table plan n) s e = e
 allowed f (event x) s e = e
 
@@ -29,21 +29,21 @@ record Arrived (ts : List Turn) (h : History) (rest : List Turn) : Type 0 where
   runs : Runs Allows at rest
 
 module _ (ts : List Turn) (h : History) (t : Turn) (rest : List Turn) (r : Arrived ts h (t ∷ rest)) where
-  abbrev next : Step
+  abbrev next : Called
   next = r .runs .0
 
-  is-next : next ≡ stepOf (t .call) (r .at)
+  is-next : next ≡ calledOf (t .call) (r .at)
   is-next = allowed (r .at) (t .call) next (r .runs .1)
 
   answered : t .said ≡ reply h (t .call)
-  answered = r .runs .2 ∙ ap (λ (x : Step). answerSays (x .answer)) is-next ∙ fits (r .at) (r .fine) h (r .tells) (t .call) .0
+  answered = r .runs .2 ∙ ap (λ (x : Called). answerSays (x .answer)) is-next ∙ fits (r .at) (r .fine) h (r .tells) (t .call) .0
 
   goes-on : Arrived (ts ++ (t ∷ [])) (told h (t .call) (t .said)) rest
   goes-on = record {
     at = next .frame;
-    fine = subst (λ (x : Step). Fine (x .frame)) (sym is-next) (call-fine (r .at) (r .fine) (t .call));
+    fine = subst (λ (x : Called). Fine (x .frame)) (sym is-next) (call-fine (r .at) (r .fine) (t .call));
     tells =
-        subst (λ (x : Step). Tells (x .frame) (told h (t .call) (t .said))) (sym is-next)
+        subst (λ (x : Called). Tells (x .frame) (told h (t .call) (t .said))) (sym is-next)
         (rw answered (fits (r .at) (r .fine) h (r .tells) (t .call) .1));
     traced = turn-on ts h (r .traced) (clear (r .at) (r .fine) h (r .tells)) t answered;
     runs = r .runs .3;

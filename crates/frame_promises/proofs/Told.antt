@@ -25,29 +25,33 @@ use Rattle.plan.specs.Plans.{noStep, readPlan}
 use Rattle.judge.specs.declared.Checked.{Checked}
 use Rattle.judge.specs.declared.Checked.the-variants.{Passes, Fails}
 use Rattle.judge.specs.Check.{afterPlan, afterTable, checkPlan}
-use Rattle.frame.specs.Finite.{finite?}
-use Rattle.frame.specs.Sound as S
-use Rattle.frame.specs.Sound.{entryAt, entryId, open?, begun?, ready?}
-use Rattle.frame.specs.Step.{Reply, says, answerSays, refused, judge, moved, whereIs, panelEntry, spanAt, spanStep, backAt, backTo, backStep}
-use Rattle.frame.specs.Step.{closeStep, readingOf, readAt, readOf, nextOf}
-use Rattle.frame.specs.Step as step
-use Rattle.frame.specs.Begin.{stepsIn, begun, mayOpen, beginChecked, beginRead, beginStep}
-use Rattle.frame.specs.Run.{Call, begin, event, stepOf}
-use Rattle.frame.specs.declared.Phase.{Phase}
-use Rattle.frame.specs.declared.Phase.the-variants.{Idle, Open, Closed}
-use Rattle.frame.specs.declared.Standing.{Standing}
-use Rattle.frame.specs.declared.Standing.the-variants as stands
-use Rattle.frame.specs.declared.Frame.{Frame}
-use Rattle.frame.specs.declared.Answer.{Answer}
-use Rattle.frame.specs.declared.Answer.the-variants.{Panel, Rest, Read}
-use Rattle.frame.specs.declared.Found.{Found}
-use Rattle.frame.specs.declared.Found.the-variants.{At, Nothing}
-use Rattle.frame.specs.declared.Event.{Event}
-use Rattle.frame.specs.declared.Event.the-variants as E
-use Rattle.frame.specs.declared.Step.{Step}
-use Rattle.frame.proofs.Laws.{false-true, first-below, first-has, first-some}
-use Rattle.frame.proofs.Passed.{Passed, passed}
-use Rattle.frame.proofs.Reached.{Fine}
+use Rattle.frame_record.specs.Finite.{finite?}
+use Rattle.frame_record.specs.Sound as S
+use Rattle.frame_record.specs.Sound.{entryAt, entryId, open?, begun?, ready?}
+use Rattle.frame_record.specs.Answers.{Reply, says, answerSays, refused}
+use Rattle.frame_record.specs.Sound.{whereIs, panelEntry}
+use Rattle.frame_reports.specs.Reports.{judge, moved, spanAt, spanStep, backAt, backTo, backStep}
+use Rattle.frame_calls.specs.Calls.{closeStep, readingOf, readAt, readOf, nextOf}
+use Rattle.frame_record.specs.Answers as answers
+use Rattle.frame_calls.specs.Calls as calls
+use Rattle.frame_begin.specs.Begin.{stepsIn, begun, mayOpen, beginChecked, beginRead, beginStep}
+use Rattle.frame_promises.specs.Call.{Call, begin, event, calledOf}
+use Rattle.frame_record.specs.declared.Phase.{Phase}
+use Rattle.frame_record.specs.declared.Phase.the-variants.{Idle, Open, Closed}
+use Rattle.frame_record.specs.declared.Standing.{Standing}
+use Rattle.frame_record.specs.declared.Standing.the-variants as stands
+use Rattle.frame_record.specs.declared.Frame.{Frame}
+use Rattle.frame_record.specs.declared.Answer.{Answer}
+use Rattle.frame_record.specs.declared.Answer.the-variants.{Panel, Rest, Read}
+use Rattle.lookup.specs.declared.Found.{Found}
+use Rattle.lookup.specs.declared.Found.the-variants.{At, Nowhere}
+use Rattle.frame_record.specs.declared.Event.{Event}
+use Rattle.frame_record.specs.declared.Event.the-variants as E
+use Rattle.frame_record.specs.declared.Called.{Called}
+use Rattle.lookup.proofs.Lookup.{first-below, first-has, first-some}
+use Rattle.frame_record.proofs.Laws.{false-true}
+use Rattle.frame_begin.proofs.Passed.{Passed, passed}
+use Rattle.frame_promises.proofs.Reached.{Fine}
 use Rattle.frame_promises.specs.History.{Report, Last, History, idle, opened, closed, done, refuse, begins, nexts, onClock, valued, spanEnds}
 use Rattle.frame_promises.specs.History.{returns, closes, reading, reads, inOpen, inClosed, reply, opens, accepts, isAccepted, told}
 use Rattle.frame_promises.specs.History.{reportOf}
@@ -56,17 +60,17 @@ use Rattle.frame_promises.proofs.Since.{Clear}
 use Rattle.frame_promises.proofs.Agrees.{Stood, Agrees, Tells, silent, goes-out, has-value, comes-back, is-closed, begun-agrees}
 
 -- a step fits a reply: it is what the answer says, and the record after it is that of the history after it
-abbrev pub Fits : Call → History → Step → Reply → Type 0
+abbrev pub Fits : Call → History → Called → Reply → Type 0
 Fits c h s r = (answerSays (s .answer) ≡ r) × Tells (s .frame) (told h c r)
 
 module _ (c : Call) (h : History) where
   -- the same test of a step and of a reply
-  same : (w : Bool) (x y : Step) (p q : Reply) → (w ≡ true → Fits c h x p) → (w ≡ false → Fits c h y q) → Fits c h (cond w x y) (cond w p q)
+  same : (w : Bool) (x y : Called) (p q : Reply) → (w ≡ true → Fits c h x p) → (w ≡ false → Fits c h y q) → Fits c h (cond w x y) (cond w p q)
   same true x y p q f g = f refl
   same false x y p q f g = g refl
 
   both :
-      (w z : Bool) → w ≡ z → (x y : Step) (p q : Reply) → (w ≡ true → Fits c h x p) → (w ≡ false → Fits c h y q) →
+      (w z : Bool) → w ≡ z → (x y : Called) (p q : Reply) → (w ≡ true → Fits c h x p) → (w ≡ false → Fits c h y q) →
       Fits c h (cond w x y) (cond z p q)
   both w z e x y p q f g = rw (← e) (same w x y p q f g)
 
@@ -91,14 +95,14 @@ module _ (f : Frame) (fine : Fine f) where
   somewhere id i e =
       (omega (arith, first-below entryId S.none (f .entries) id 0 (f .count) i e), first-has entryId S.none (f .entries) id 0 (f .count) i e)
 
-  nowhere : (id : ℕ) → whereIs f id ≡ Nothing → (i : ℕ) → i < f .count → entryAt (f .entries) i .id ≡ id → ⊥
+  nowhere : (id : ℕ) → whereIs f id ≡ Nowhere → (i : ℕ) → i < f .count → entryAt (f .entries) i .id ≡ id → ⊥
   unfolding whereIs
   nowhere id e i h is =
       let m = first-some entryId S.none (f .entries) id 0 (f .count) i (omega arith) (omega arith) is in clash (cc (m .1))
 
   -- ---- a read
 
-  module _ (b : Last) (a : Agrees f b) (unreported : Reply) (says-so : answerSays (Read (step.unreported (f .phase))) ≡ unreported) where
+  module _ (b : Last) (a : Agrees f b) (unreported : Reply) (says-so : answerSays (Read (calls.unreported (f .phase))) ≡ unreported) where
     heard :
         (p : Phase) (x : Report) (w : Bool) →
         answerSays (Read (readingOf p (cond w (stands.Held (record { value = x .value; frame = b .number })) stands.Late))) ≡
@@ -121,7 +125,7 @@ module _ (f : Frame) (fine : Fine f) where
         let j = in-table (b .table .jobs) id i (omega (arith, h .0, a .counted)) (sym (a .jobs i (h .0)) ∙ h .1) in
         rw (j .1)
         (reading-is (used (b .out) id) (reportOf (b .reports) id) (entryAt (f .entries) i .standing) (rw (h .1) at (a .stands i (h .0))))
-    read-at id Nothing e =
+    read-at id Nowhere e =
         rw (not-in-table (b .table .jobs) id
         (λ i h is. nowhere id e i (omega (arith, h, a .counted)) (a .jobs i (omega (arith, h, a .counted)) ∙ is)))
 
@@ -141,7 +145,7 @@ module _ (f : Frame) (fine : Fine f) where
     refuses : (c : Call) (r : Refusal) → Fits c H (refused r f) (says (refusalSays r))
     refuses c r = (refl, rw (refused-told H c r) (is, a))
 
-    clock : (c : Call) (t : ℕ) (x : Step) (p : Reply) → Fits c H x p → Fits c H (step.onClock f t x) (onClock b t p)
+    clock : (c : Call) (t : ℕ) (x : Called) (p : Reply) → Fits c H x p → Fits c H (answers.onClock f t x) (onClock b t p)
     clock c t x p e = both c H (ltb t (f .clock)) (ltb t (b .clock)) (ap (ltb t) (a .clocked)) _ _ _ _ (λ _. refuses c R.Clock) (λ _. e)
 
     -- a call that only asks changes nothing, whatever it is answered
@@ -149,7 +153,7 @@ module _ (f : Frame) (fine : Fine f) where
     unchanged c e r true q = rw e (is, a)
     unchanged c e r false q = (is, a)
 
-    asked : (g : Answer) (r : Reply) → answerSays g ≡ r → (e : Event) → accepts H (event e) ≡ H → Fits (event e) H (step.asked f g) r
+    asked : (g : Answer) (r : Reply) → answerSays g ≡ r → (e : Event) → accepts H (event e) ≡ H → Fits (event e) H (calls.asked f g) r
     asked g r said e stays = (said, unchanged (event e) stays r (isAccepted r) refl)
 
     -- what is to come, by whether a job is on the panel
@@ -215,7 +219,7 @@ module _ (f : Frame) (fine : Fine f) where
 
       taken :
           (i : ℕ) → i < f .count → entryAt (f .entries) i .id ≡ id →
-          Fits B H (step.done (moved f i t (f .next) (judge v (f .number) t (f .deadline)))) done
+          Fits B H (answers.done (moved f i t (f .next) (judge v (f .number) t (f .deadline)))) done
       taken i h named = (refl, comes-back f fine o b a is i h n id t v named)
 
       -- one that is not out is refused WHO
@@ -243,7 +247,7 @@ module _ (f : Frame) (fine : Fine f) where
       back-to (At i) e =
           let w = somewhere id i e in
           back-at i (w .0) (w .1) (reportOf (b .reports) id) (entryAt (f .entries) i .standing) (rw (w .1) at (a .stands i (w .0)))
-      back-to Nothing e = rw (a .strangers id (nowhere id e)) (refuses B R.Who)
+      back-to Nowhere e = rw (a .strangers id (nowhere id e)) (refuses B R.Who)
 
       back-fits : Fits B H (backStep f n id t v) (returns b n id t v)
       unfolding backStep
@@ -252,7 +256,7 @@ module _ (f : Frame) (fine : Fine f) where
           (both B H (eqb n (f .number)) (eqb n (b .number)) (ap (eqb n) (a .numbered)) _ _ _ _
           (λ _. clock B t _ _ (back-to (whereIs f id) refl)) (λ _. refuses B R.Number))
 
-    shut : (t : ℕ) → Fits (event (E.Close t)) H (step.done (step.closed f t)) done
+    shut : (t : ℕ) → Fits (event (E.Close t)) H (answers.done (calls.closed f t)) done
     shut t = (refl, (refl, is-closed f fine o b a t))
 
     close-fits : (t : ℕ) → Fits (event (E.Close t)) H (closeStep f t) (closes b t)
@@ -263,7 +267,7 @@ module _ (f : Frame) (fine : Fine f) where
         (clock c t _ _ (both c H (ltb t (f .deadline)) (ltb t (b .table .deadline)) (ap (ltb t) (a .due)) _ _ _ _
         (λ _. refuses c R.Early) (λ _. shut t)))
 
-    open-fits : (e : Event) → Fits (event e) H (step.eventStep f e) (inOpen b e)
+    open-fits : (e : Event) → Fits (event e) H (calls.eventStep f e) (inOpen b e)
     open-fits E.Next = asked (nextOf f) (nexts (b .to-come)) next-said E.Next refl
     open-fits (E.SpanEnd id t v) = span-fits id t v
     open-fits (E.Return n id t v) = back-fits n id t v
@@ -293,7 +297,7 @@ module _ (f : Frame) (fine : Fine f) where
         at (At i) q =
             let w = somewhere id i q in
             stood-silent (used (b .out) id) e (reportOf (b .reports) id) (entryAt (f .entries) i .standing) (rw (w .1) at (a .stands i (w .0)))
-        at Nothing q = absurd (false-true (sym (a .strangers id (nowhere id q)) ∙ e))
+        at Nowhere q = absurd (false-true (sym (a .strangers id (nowhere id q)) ∙ e))
 
   pub clear : (h : History) → Tells f h → Clear h
   clear idle a = tt
@@ -307,7 +311,7 @@ module _ (f : Frame) (fine : Fine f) where
     phase : (c : Call) → Fits c h (refused R.Phase f) (refuse 12)
     phase c = (refl, a)
 
-    next-shut : Fits (event E.Next) h (step.asked f (nextOf f)) (refuse 12)
+    next-shut : Fits (event E.Next) h (calls.asked f (nextOf f)) (refuse 12)
     unfolding nextOf
     next-shut = rw shut (phase (event E.Next))
 
@@ -323,11 +327,11 @@ module _ (f : Frame) (fine : Fine f) where
     unfolding closeStep
     close-shut t = rw shut (phase (event (E.Close t)))
 
-  idle-read : f .phase ≡ Idle → (id : ℕ) → Fits (event (E.Read id)) idle (step.asked f (readOf f id)) (refuse 12)
+  idle-read : f .phase ≡ Idle → (id : ℕ) → Fits (event (E.Read id)) idle (calls.asked f (readOf f id)) (refuse 12)
   unfolding readOf
   idle-read a id = rw (begun-is Idle a) (refl, a)
 
-  idle-fits : f .phase ≡ Idle → (e : Event) → Fits (event e) idle (step.eventStep f e) (refuse 12)
+  idle-fits : f .phase ≡ Idle → (e : Event) → Fits (event e) idle (calls.eventStep f e) (refuse 12)
   idle-fits a E.Next = next-shut idle a (open-is Idle a)
   idle-fits a (E.SpanEnd id t v) = span-shut idle a (open-is Idle a) id t v
   idle-fits a (E.Return n id t v) = back-shut idle a (open-is Idle a) n id t v
@@ -342,7 +346,7 @@ module _ (f : Frame) (fine : Fine f) where
     closed-read r true e = a
     closed-read r false e = a
 
-    closed-fits : (e : Event) → Fits (event e) (closed b) (step.eventStep f e) (inClosed b e)
+    closed-fits : (e : Event) → Fits (event e) (closed b) (calls.eventStep f e) (inClosed b e)
     closed-fits E.Next = next-shut (closed b) a no
     closed-fits (E.SpanEnd id t v) = span-shut (closed b) a no id t v
     closed-fits (E.Return n id t v) = back-shut (closed b) a no n id t v
@@ -372,7 +376,7 @@ module _ (f : Frame) (fine : Fine f) where
 
     begun-fits :
         (t : JobTable) → readTable table ≡ accepted t → (last busy : ℕ) → afterPlan t (readPlan s) ≡ Passes last busy →
-        Fits N h (step.done (begun number t (stepsIn (readPlan s)))) done
+        Fits N h (answers.done (begun number t (stepsIn (readPlan s)))) done
     begun-fits t e last busy ok = (refl, rw e (opened-by t e (readPlan s) refl last busy ok))
 
     checked-fits :
@@ -396,7 +400,7 @@ module _ (f : Frame) (fine : Fine f) where
 
   -- ---- every call
 
-  pub fits : (h : History) → Tells f h → (c : Call) → Fits c h (stepOf c f) (reply h c)
+  pub fits : (h : History) → Tells f h → (c : Call) → Fits c h (calledOf c f) (reply h c)
   fits idle a (begin table s n) = begin-fits idle a table s n true (rw a) (ready-is Idle a)
   fits idle a (event e) = idle-fits a e
   fits (opened b) a (begin table s n) = open-begin b a table s n

@@ -11,16 +11,17 @@ use Rattle.model.specs.declared.Job.{Job}
 use Rattle.table.specs.Records.{used}
 use Rattle.table.specs.Refusals.{Outcome, accepted, refused, refusalSays}
 use Rattle.table.specs.Tables.{JobTable, readTable}
+use Rattle.lookup.specs.Lookup.{jobOf}
 use Rattle.plan.specs.declared.Step.{Step}
 use Rattle.plan.specs.Plans.{readPlan}
 use Rattle.judge.specs.declared.Checked.{Checked}
 use Rattle.judge.specs.declared.Checked.the-variants.{Passes, Fails}
-use Rattle.judge.specs.Check.{jobOf, checkPlan}
-use Rattle.frame.specs.Finite.{finite?}
-use Rattle.frame.specs.Step.{Reply, says}
-use Rattle.frame.specs.Run.{Call, begin, event}
-use Rattle.frame.specs.declared.Event.{Event}
-use Rattle.frame.specs.declared.Event.the-variants as E
+use Rattle.judge.specs.Check.{checkPlan}
+use Rattle.frame_record.specs.Finite.{finite?}
+use Rattle.frame_record.specs.Answers.{Reply, says}
+use Rattle.frame_promises.specs.Call.{Call, begin, event}
+use Rattle.frame_record.specs.declared.Event.{Event}
+use Rattle.frame_record.specs.declared.Event.the-variants as E
 
 -- a call, with what its answer says
 pub record Turn : Type 0 where

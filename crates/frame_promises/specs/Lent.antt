@@ -6,9 +6,9 @@ use base.Logic.{emp}
 use borrow.Fn.Claims.{AllOf}
 use borrow.Fn.Read.{Read, all-models, no-know, r-last}
 use Rattle.faults.specs.Allows.{Tells, to}
-use Rattle.frame.specs.Run.{Call, begin, event}
-use Rattle.frame.specs.declared.Frame.{Frame}
-use Rattle.frame.specs.declared.Step.{Step}
+use Rattle.frame_promises.specs.Call.{Call, begin, event}
+use Rattle.frame_record.specs.declared.Frame.{Frame}
+use Rattle.frame_record.specs.declared.Called.{Called}
 use Rattle.frame_lent.proofs as frame-lent
 use Rattle.frame_promises.specs.History.{Turn}
 use Rattle.frame_promises.specs.Runs.{Starts, Runs}
@@ -26,7 +26,7 @@ CallIn κs i r e =
     in AllOf (told .tells)
 
 -- `begin_in` and `call_in` may answer so, and leave this record where it was lent
-abbrev pub LentAllows : Frame → Call → Step → Type 0
+abbrev pub LentAllows : Frame → Call → Called → Type 0
 LentAllows f (begin table plan n) s =
     BeginIn ([], ([], ([], tt))) (to f, (to table, (to plan, (n, tt)))) (s .answer) (to (s .frame), (to table, (to plan, (n, tt))))
 LentAllows f (event e) s = CallIn ([], tt) (to f, (e, tt)) (s .answer) (to (s .frame), (e, tt))

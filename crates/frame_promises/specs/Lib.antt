@@ -1,3 +1,4 @@
+pub mod Call
 pub mod History
 pub mod Runs
 pub mod Lent

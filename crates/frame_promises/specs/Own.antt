@@ -18,9 +18,9 @@ use Rattle.plan.specs.Plans.{stepsFor}
 use Rattle.judge.specs.Check.{checkedSays, checkPlan}
 use Rattle.faults.specs.Faults.{TableIs, PlanIs}
 use Rattle.faults.specs.Checks.{PlanOf}
-use Rattle.frame.specs.Step.{Reply}
-use Rattle.frame.specs.Run.{Call, begin, event}
-use Rattle.frame.specs.declared.Event.the-variants as E
+use Rattle.frame_record.specs.Answers.{Reply}
+use Rattle.frame_promises.specs.Call.{Call, begin, event}
+use Rattle.frame_record.specs.declared.Event.the-variants as E
 use Rattle.frame_promises.specs.History.{Turn, done, fresh, isAccepted}
 use Rattle.frame_promises.specs.Runs.{FromIdle}
 use Rattle.frame_promises.specs.Readings.{NoBegin, LastBegin, IsClosed}

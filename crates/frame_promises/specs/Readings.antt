@@ -10,9 +10,9 @@ use Rattle.table.specs.Refusals as outcome
 use Rattle.table.specs.Tables.{JobTable, readTable}
 use Rattle.plan.specs.declared.Step.{Step}
 use Rattle.plan.specs.Plans.{readPlan}
-use Rattle.frame.specs.Step.{Reply, says}
-use Rattle.frame.specs.Run.{Call, begin, event}
-use Rattle.frame.specs.declared.Event.the-variants as E
+use Rattle.frame_record.specs.Answers.{Reply, says}
+use Rattle.frame_promises.specs.Call.{Call, begin, event}
+use Rattle.frame_record.specs.declared.Event.the-variants as E
 use Rattle.frame_promises.specs.History.{Turn, refuse, fresh, isAccepted}
 
 -- the call is among the turns, and was accepted

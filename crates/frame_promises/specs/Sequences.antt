@@ -6,10 +6,10 @@ use mathlib.Core.Bool.{true, cond}
 use mathlib.Core.List.{List, [], _∷_, _++_}
 use lib.Ieee.{Float}
 use Rattle.model.specs.Lists.{Pairwise}
-use Rattle.frame.specs.Finite.{finite?}
-use Rattle.frame.specs.Step.{Reply}
-use Rattle.frame.specs.Run.{Call, begin, event}
-use Rattle.frame.specs.declared.Event.the-variants as E
+use Rattle.frame_record.specs.Finite.{finite?}
+use Rattle.frame_record.specs.Answers.{Reply}
+use Rattle.frame_promises.specs.Call.{Call, begin, event}
+use Rattle.frame_record.specs.declared.Event.the-variants as E
 use Rattle.frame_promises.specs.History.{Turn, fresh, isAccepted}
 
 -- "two sequences of the same calls that differ only in one job's finite values"

@@ -9,34 +9,28 @@ use mathlib.Core.List.{List, [], _∷_, _++_, map, List·Memᴰ, List·Memᴰ·h
 use mathlib.Core.List.{List·Permᴰ·cons, List·Permᴰ·swap, List·Permᴰ·trans, Permᴰ·refl, Permᴰ·symm, Permᴰ·middle, append-nil}
 use mathlib.Core.Option.{Option, none, some}
 use lib.ListN.{length, length-map, length-append}
-use lib.Dec.{T, eqb}
-use borrow.Author.Tests.{eqb-true, eq-eqb, ne-eqb}
+use lib.Dec.{T}
+use borrow.Author.Tests.{ne-eqb}
 use Rattle.model.specs.declared.Job.{Job}
 use Rattle.model.specs.Lists.{All}
 use Rattle.model.specs.Timetable.{Chosen, Allowed, isEither}
 use Rattle.model.specs.Laying.{chosen}
 use Rattle.model.proofs.PlanOrder.{jobOf as theJob, jobs as jobsOf}
-use Rattle.model.proofs.Lists.{clash, all-map, all-zip, all-of-map, pairwise-of-map}
+use Rattle.model.proofs.Lists.{clash, all-map, all-zip, member-all, all-members, all-of-map, pairwise-of-map}
 use Rattle.model.proofs.Permutations.{all-perm, pairwise-perm, length-perm}
 use Rattle.table.specs.declared.refusal.Refusal.the-variants.{Kept}
 use Rattle.table.specs.Refusals.{Outcome, accepted, refused}
 use Rattle.table.specs.Records.{used}
 use Rattle.table.specs.Tables.{jobId}
 use Rattle.table.proofs.Listed.{Distinct, used-member}
+use Rattle.lookup.specs.Lookup.{jobOf}
+use Rattle.lookup.proofs.Lookup.{with-tells}
 use Rattle.plan.specs.declared.Step.{Step}
 use Rattle.plan.specs.Plans.{stepId, stepOf, stepsFor}
-use Rattle.judge.specs.Check.{jobOf, chosenBy, before, listed, lacksOne}
+use Rattle.judge.specs.Check.{chosenBy, before, listed, lacksOne}
 
 -- Members of a list.
 module _ {A : Type 0} where
-  pub member-all : (P : A → Type 0) {x : A} {xs : List A} → All P xs → List·Memᴰ x xs → P x
-  member-all P h (List·Memᴰ·head e) = subst P (sym e) (h .0)
-  member-all P h (List·Memᴰ·tail m) = member-all P (h .1) m
-
-  all-members : (xs : List A) → All (λ (x : A). List·Memᴰ x xs) xs
-  all-members [] = tt
-  all-members (x ∷ xs) = (List·Memᴰ·head refl, all-map (λ y m. List·Memᴰ·tail m) xs (all-members xs))
-
   -- permuted lists have the same members
   pub perm-members : {xs ys : List A} → List·Permᴰ xs ys → All (λ (x : A). List·Memᴰ x ys) xs
   perm-members {xs} {ys} d = all-perm (λ (x : A). List·Memᴰ x ys) (Permᴰ·symm d) (all-members ys)
@@ -67,23 +61,6 @@ module _ {A B : Type 0} (g : A → B) (idOf : B → ℕ) where
           other : (g y ≡ g x) ⊎ List·Memᴰ (g y) zs → List·Memᴰ (g y) zs
           other (inl e) = absurd (n (ap idOf (sym e)))
           other (inr k) = k
-
--- The job with an id is of the table and has it; and each job of a table with distinct ids is the job with its id.
-pub job-tells : (js : List Job) (id : ℕ) (j : Job) → jobOf js id ≡ some j → List·Memᴰ j js × (j .id ≡ id)
-unfolding jobOf
-job-tells [] id j e = clash (cc)
-job-tells (i ∷ js) id j e = step (eqb (i .id) id) refl e (job-tells js id j)
-  where
-    step :
-        (b : Bool) → eqb (i .id) id ≡ b → cond b (some i) (jobOf js id) ≡ some j →
-        (jobOf js id ≡ some j → List·Memᴰ j js × (j .id ≡ id)) → List·Memᴰ j (i ∷ js) × (j .id ≡ id)
-    step true q e on = let same : j ≡ i = cc in (List·Memᴰ·head same, rw same (eqb-true (i .id) id q))
-    step false q e on = let r = on e in (List·Memᴰ·tail (r .0), r .1)
-
-pub job-found : (js : List Job) (j : Job) → Distinct jobId js → List·Memᴰ j js → jobOf js (j .id) ≡ some j
-unfolding jobOf
-job-found (i ∷ js) j d (List·Memᴰ·head e) = rw (e, eq-eqb (i .id) (i .id) refl)
-job-found (i ∷ js) j d (List·Memᴰ·tail m) = rw (ne-eqb (i .id) (j .id) (member-all _ (d .0) m)) (job-found js j (d .1) m)
 
 -- the table's job with the id is this one
 abbrev pub Named : List Job → Chosen → Type 0
@@ -125,7 +102,7 @@ listed-tells js [] cs e = let none : [] ≡ cs = cc in subst (Lists js []) none 
 listed-tells js (x ∷ xs) cs e =
     let r = before-tells (chosenBy x (jobOf js (x .id))) (listed js xs) cs e in
     let c = chosen-tells x (jobOf js (x .id)) (r .0) (r .2) in
-    let id : r .0 .job .id ≡ x .id = job-tells js (x .id) (r .0 .job) (c .0) .1 in
+    let id : r .0 .job .id ≡ x .id = with-tells jobId js (x .id) (r .0 .job) (c .0) .1 in
     let l = listed-tells js xs (r .1) (r .3) in
     let first : stepOf (r .0) ≡ x = λ i. record { id = id i; away = c .1 i } in
     subst (Lists js (x ∷ xs)) (r .4)
@@ -176,7 +153,7 @@ pub all-or-left :
     (js : List Job) (cs : List Chosen) → Distinct jobId js → Distinct stepId (stepsFor cs) → All (Named js) cs →
     ((length js ≤ length cs) × List·Permᴰ (jobsOf cs) js) ⊎ ((length cs < length js) × (lacksOne js (map stepId (stepsFor cs)) ≡ true))
 all-or-left js cs table plan h =
-    let r = rest-of theJob jobId cs js (pairwise-of-map stepOf _ cs plan) (all-map (λ c e. job-tells js _ _ e .0) cs h) in
+    let r = rest-of theJob jobId cs js (pairwise-of-map stepOf _ cs plan) (all-map (λ c e. with-tells jobId js _ _ e .0) cs h) in
     step (r .0) (r .1)
   where
     step :

@@ -1,4 +1,3 @@
-pub mod Places
 pub mod Jobs
 pub mod Walk
 pub mod Says

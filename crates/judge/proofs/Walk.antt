@@ -13,25 +13,28 @@ use lib.Seq.{split-at, take-suc, take-all}
 use borrow.Author.Tests.{le-leb, lt-leb}
 use Rattle.model.specs.declared.Job.{Job}
 use Rattle.model.specs.declared.Laid.{Laid}
+use Rattle.model.specs.Lists.{All}
 use Rattle.model.specs.Timetable.{Chosen, isEither, span}
 use Rattle.model.specs.FreeOrder.{busy, lastFrom}
-use Rattle.model.specs.Laying.{chosen, laidOf, laidWith}
-use Rattle.model.proofs.Lists.{clash, all-map}
+use Rattle.model.specs.Laying.{chosen, laidOf, laidWith, mostBusy}
+use Rattle.model.proofs.Lists.{clash, all-map, member-all}
 use Rattle.model.proofs.Laying.{laid-more}
 use Rattle.table.specs.declared.refusal.Refusal.{Refusal}
 use Rattle.table.specs.declared.refusal.Refusal.the-variants.{Stranger, Kept, Left, Late}
 use Rattle.table.specs.Limits.{largestTime}
 use Rattle.table.specs.Refusals.{Outcome, accepted, refused}
-use Rattle.table.specs.Tables.{JobTable, TimesOk, GoodTable}
+use Rattle.table.specs.Tables.{JobTable, TimesOk, GoodTable, jobId}
+use Rattle.lookup.specs.Lookup.{jobOf}
+use Rattle.lookup.proofs.Lookup.{with-tells}
 use Rattle.plan.specs.declared.Step.{Step}
 use Rattle.plan.specs.declared.PlanRead.the-variants.{PlanIs}
 use Rattle.plan.specs.Plans.{stepId, readPlan, planRead, noStep, stepAt}
-use Rattle.model.proofs.Bounds.{spans-short}
+use Rattle.model.proofs.Bounds.{span-short, spans-short}
 use Rattle.plan.proofs.Steps.{steps-length}
 use Rattle.plan.proofs.Plans.{accepted-plan, step-at}
 use Rattle.judge.specs.declared.Checked.the-variants.{Passes, Fails}
-use Rattle.judge.specs.Check.{jobOf, chosenBy, before, listed, lacksOne, timed, afterPlan}
-use Rattle.judge.proofs.Jobs.{member-all, job-tells, before-tells, listed-tells, none-left, all-or-left}
+use Rattle.judge.specs.Check.{chosenBy, before, listed, lacksOne, timed, afterPlan}
+use Rattle.judge.proofs.Jobs.{before-tells, listed-tells, none-left, all-or-left}
 
 -- what the steps behind others come to
 abbrev behind : List Chosen → Outcome (List Chosen) → Outcome (List Chosen)
@@ -59,14 +62,6 @@ listed-append js (x ∷ xs) ys cs e =
         listed js (xs ++ ys) ≡ behind ds (listed js ys) → before (chosenBy x (jobOf js (x .id))) (listed js (xs ++ ys)) ≡ behind cs (listed js ys)
     step c ds a b on = rw (← b, a, on) (before-behind c ds (listed js ys))
 
--- a span of a job that the table has is short
-span-short : (c : Chosen) → TimesOk largestTime (c .job) → span c ≤ largestTime
-span-short c ok = step (c .away)
-  where
-    step : (w : Bool) → span (record { job = c .job; away = w }) ≤ largestTime
-    step true = ok .setup
-    step false = ok .local
-
 -- What is kept: the plan reads as xs, of which the first k are listed as cs, and cs is laid.
 pub record Walked (t : JobTable) (plan : List ℕ) (steps : ℕ) (laid : Laid) (k : ℕ) : Type 0 where
   pub xs : List Step
@@ -88,10 +83,15 @@ module _ (t : JobTable) (plan : List ℕ) (steps : ℕ) where
 
   module _ {laid : Laid} {k : ℕ} (w : Walked t plan steps laid k) where
     -- the busy total stays far below what a u32 holds
-    pub walk-room : GoodTable t → laid .busy ≤ 4000000000
+    pub walk-room : GoodTable t → laid .busy ≤ mostBusy
     walk-room good =
         let l = listed-tells (t .jobs) (take k (w .xs)) (w .cs) (w .so) in
-        let short = all-map (λ c e. span-short c (member-all (TimesOk largestTime) (good .times) (job-tells (t .jobs) _ _ e .0))) (w .cs) (l .named) in
+        let short : All (λ (c : Chosen). span c ≤ largestTime) (w .cs) =
+        all-map
+        (λ c e.
+        let ok = member-all (TimesOk largestTime) (good .times) (with-tells jobId (t .jobs) _ _ e .0) in
+        span-short largestTime c (ok .local) (ok .setup))
+        (w .cs) (l .named) in
         let few = accepted-plan plan (w .xs) (w .reads) .0 in
         rw (w .held) (omega (arith, spans-short largestTime (w .cs) short, steps-length (w .cs), ap length (l .steps), length-take k (w .xs)))
 

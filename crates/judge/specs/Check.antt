@@ -3,8 +3,8 @@
 use mathlib.Core.Bool.{Bool, false, cond, not, _&&_, _||_}
 use mathlib.Core.List.{List, [], _∷_, map}
 use mathlib.Core.Option.{Option, none, some}
-use Prim.Native.Nat.{ℕ, suc}
-use lib.Dec.{leb, eqb}
+use Prim.Native.Nat.{ℕ}
+use lib.Dec.{leb}
 use Rattle.model.specs.declared.Job.{Job}
 use Rattle.model.specs.Timetable.{Chosen, isEither}
 use Rattle.model.specs.FreeOrder.{busy, lastFrom}
@@ -13,10 +13,9 @@ use Rattle.table.specs.declared.refusal.Refusal.the-variants.{Stranger, Kept, L
 use Rattle.table.specs.Refusals.{refusalSays, Outcome, accepted, refused}
 use Rattle.table.specs.Records.{used}
 use Rattle.table.specs.Tables.{JobTable, readTable}
+use Rattle.lookup.specs.Lookup.{jobOf}
 use Rattle.plan.specs.declared.Step.{Step}
 use Rattle.plan.specs.Plans.{stepId, readPlan}
-use Rattle.judge.specs.declared.Found.{Found}
-use Rattle.judge.specs.declared.Found.the-variants.{At, Nowhere}
 use Rattle.judge.specs.declared.Checked.{Checked}
 use Rattle.judge.specs.declared.Checked.the-variants.{Passes, Fails}
 
@@ -24,19 +23,6 @@ use Rattle.judge.specs.declared.Checked.the-variants.{Passes, Fails}
 abbrev pub checkedSays : Checked → List ℕ
 checkedSays (Passes last busy) = 0 ∷ last ∷ busy ∷ []
 checkedSays (Fails f) = refusalSays f
-
--- the job of the table that has the id
-unfoldable pub jobOf : List Job → ℕ → Option Job
-jobOf [] id = none
-jobOf (j ∷ js) id = cond (eqb (j .id) id) (some j) (jobOf js id)
-
--- and the first position at which a job with the id stands, where k jobs stand before the list; proofs/Places.antt ties it to `jobOf`
-unfoldable pub placeFrom : ℕ → List Job → ℕ → Found
-placeFrom k [] id = Nowhere
-placeFrom k (j ∷ js) id = cond (eqb (j .id) id) (At k) (placeFrom (suc k) js id)
-
-abbrev pub placeOf : List Job → ℕ → Found
-placeOf js id = placeFrom 0 js id
 
 -- "STRANGER: plan names an id that the table lacks; KEPT: plan sends a here-only job away"
 abbrev pub chosenBy : Step → Option Job → Outcome Chosen

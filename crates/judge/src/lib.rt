@@ -9,39 +9,15 @@ use table::TableVerdict;
 use table::refusal::Refusal;
 ghost use mathlib.Core.Path.{_≡_};
 ghost use mathlib.Core.Bool.{not, _&&_};
-ghost use Prim.Native.Nat.{_≤_};
-ghost use lib.ListN.{take};
 ghost use Rattle.model.specs.Timetable.{isEither};
-ghost use Rattle.table.specs.Limits.{mostJobs};
 ghost use Rattle.table.specs.Tables.{Sound, jobTable};
 ghost use Rattle.plan.specs.declared.PlanRead.the-variants.{PlanIs};
 ghost use Rattle.plan.specs.Plans.{readPlan, planRead};
-ghost use Rattle.judge.specs.Check.{placeOf, afterPlan, checkPlan};
+ghost use Rattle.judge.specs.Check.{afterPlan, checkPlan};
 
 pub enum Checked {
     Passes { last: u32, busy: u32 },
     Fails(Refusal),
-}
-
-// A job's position in the table.
-enum Found {
-    At(usize),
-    Nowhere,
-}
-
-// Where the job with this id stands among the first `count`.
-fn place_of(jobs: [Job; Table::MOST_JOBS], count: usize, id: u8) -> Found
-    requires { ⌜ count ≤ mostJobs ⌝ }
-    ensures { λ r. ⌜ r ≡ placeOf (take count jobs) id ⌝ }
-{
-    let mut i = 0;
-    while i < count {
-        if jobs[i].id == id {
-            return Found::At(i);
-        }
-        i += 1;
-    }
-    Found::Nowhere
 }
 
 // Whether a here-only job is sent away.
@@ -61,13 +37,15 @@ fn check_steps(t: Table, plan: &[u8], steps: usize) -> Checked
     requires { ⌜ Sound t × (planRead (readPlan (now plan)) ≡ PlanIs steps) ⌝ }
     ensures { λ r. ⌜ r ≡ afterPlan (jobTable t) (readPlan (now (plan .entry))) ⌝ }
 {
+    let index = lookup::index_of(t);
     let mut laid = Laid { busy: 0, last: 0 };
     let mut k = 0;
     while k < steps {
         let step = plan::step_at(plan, k);
-        let Found::At(i) = place_of(t.jobs, t.count, step.id) else {
+        let i = index[step.id as usize] as usize;
+        if t.count <= i {
             return Checked::Fails(Refusal::Stranger);
-        };
+        }
         let job = t.jobs[i];
         if is_kept(job, step.away) {
             return Checked::Fails(Refusal::Kept);

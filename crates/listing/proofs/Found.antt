@@ -1,44 +1,41 @@
--- The job of an id in the table: the laws of the search, and that the steps of a plan find their own jobs again.
+-- The job of an id in the table: the job that the index tells, and that the steps of a plan find their own jobs again.
 -- Assumes nothing.
-use mathlib.Core.Path.{_≡_, refl, sym, subst}
+use mathlib.Core.Path.{_≡_, refl, sym, ap, subst, _∙_}
+use mathlib.Core.Bool.{Bool, true, false}
 use mathlib.Core.List.{List, [], _∷_, List·Permᴰ}
-use Prim.Native.Nat.{ℕ, _+_, _≤_, _<_}
-use native.Mathlib.Numerals.{add-one}
-use lib.ListN.{length, drop, getD, drop-of-length-le}
-use lib.Seq.{drop-cons}
-use borrow.Author.Tests.{eq-eqb, ne-eqb}
+use Prim.Native.Nat.{ℕ, _≤_, _<_}
+use lib.ListN.{length, getD, List·getD-eq-default}
+use lib.Dec.{ltb}
+use borrow.Author.Tests.{ltb-true, ltb-false}
 use Rattle.model.specs.declared.Job.{Job}
-use Rattle.model.specs.Lists.{All, Pairwise}
+use Rattle.model.specs.Lists.{All}
 use Rattle.model.specs.Timetable.{Chosen}
 use Rattle.model.specs.FreeOrder.{Choice}
 use Rattle.model.specs.Positions.{noJob}
-use Rattle.model.proofs.Lists.{all-map, all-zip, all-of-map}
+use Rattle.model.proofs.Lists.{all-map, all-members, all-of-map}
 use Rattle.model.proofs.Permutations.{all-perm}
-use Rattle.listing.specs.Found.{jobWith, chosenFor}
+use Rattle.table.specs.Limits.{mostJobs}
+use Rattle.table.specs.Tables.{jobId}
+use Rattle.table.proofs.Listed.{Distinct}
+use Rattle.lookup.specs.Lookup.{Indexes}
+use Rattle.lookup.proofs.Lookup.{with-own, index-tells, index-none}
 use Rattle.plan.specs.Plans.{stepsFor}
+use Rattle.listing.specs.Found.{orNone, jobWith, chosenFor}
 
-module _ (js : List Job) (i id : ℕ) where
-  pub with-found : i < length js → getD js i noJob .id ≡ id → jobWith (drop i js) id ≡ getD js i noJob
-  unfolding jobWith
-  with-found h e = rw (drop-cons js i noJob h, eq-eqb _ _ e)
-
-  pub with-next : i < length js → (getD js i noJob .id ≡ id → ⊥) → jobWith (drop (i + 1) js) id ≡ jobWith (drop i js) id
-  unfolding jobWith
-  with-next h n = rw (add-one, drop-cons js i noJob h, ne-eqb _ _ n)
-
-  pub with-none : length js ≤ i → jobWith (drop i js) id ≡ noJob
-  unfolding jobWith
-  with-none h = rw (drop-of-length-le js {i = i} h)
+-- the job that the index tells is the job with the id
+pub with-index :
+    (js : List Job) (index : List ℕ) → Indexes js index → length js ≤ mostJobs → (id : ℕ) → id < 256 → getD js (getD index id 0) noJob ≡ jobWith js id
+with-index js index is few id byte = step (ltb (getD index id 0) (length js)) refl
+  where
+    step : (b : Bool) → ltb (getD index id 0) (length js) ≡ b → getD js (getD index id 0) noJob ≡ jobWith js id
+    step true e = ap orNone (sym (index-tells js index is few id byte (ltb-true _ _ e)))
+    step false e =
+        let out = ltb-false (getD index id 0) (length js) e in
+        List·getD-eq-default js noJob out ∙ ap orNone (sym (index-none js index is few id byte out))
 
 -- where ids are distinct, each job is found by its own id
-with-self : (js : List Job) → Pairwise (λ (i j : Job). ¬ (i .id ≡ j .id)) js → All (λ (j : Job). jobWith js (j .id) ≡ j) js
-unfolding jobWith
-with-self [] d = tt
-with-self (j ∷ js) d = (
-  rw (eq-eqb (j .id) (j .id) refl),
-  all-map (λ (k : Job) (h : (¬ (j .id ≡ k .id)) × (jobWith js (k .id) ≡ k)). rw (ne-eqb (j .id) (k .id) (h .0)) (h .1)) js
-      (all-zip (λ (k : Job). ¬ (j .id ≡ k .id)) (λ (k : Job). jobWith js (k .id) ≡ k) js (d .0) (with-self js (d .1))),
-)
+with-self : (js : List Job) → Distinct jobId js → All (λ (j : Job). jobWith js (j .id) ≡ j) js
+with-self js d = all-map (λ j m. ap orNone (with-own jobId js j d m)) js (all-members js)
 
 -- a job with its choice is found by its id
 abbrev Own : List Job → Chosen → Type 0
@@ -46,10 +43,11 @@ Own js x = jobWith js (x .job .id) ≡ x .job
 
 -- so the steps of a plan of these jobs find the jobs again
 pub found-again :
-    (js : List Job) → Pairwise (λ (i j : Job). ¬ (i .id ≡ j .id)) js →
+    (js : List Job) → Distinct jobId js →
     (cs xs : List Chosen) → Choice js cs → List·Permᴰ cs xs → chosenFor js (stepsFor xs) ≡ xs
 found-again js distinct cs xs c p =
-    same xs (all-perm (Own js) p (all-of-map (λ (x : Chosen). x .job) (λ (j : Job). jobWith js (j .id) ≡ j) cs (subst (All _) (sym (c .each)) (with-self js distinct))))
+    let own : All (Own js) cs = all-of-map (λ (x : Chosen). x .job) (λ (j : Job). jobWith js (j .id) ≡ j) cs (subst (All _) (sym (c .each)) (with-self js distinct)) in
+    same xs (all-perm (Own js) p own)
   where
     same : (ys : List Chosen) → All (Own js) ys → chosenFor js (stepsFor ys) ≡ ys
     same [] a = refl

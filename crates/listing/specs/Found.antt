@@ -1,9 +1,9 @@
 -- What the lister's code goes by: the job of an id in the table, a plan's steps with their jobs, a refusal's numbers, and the text of what was made.
 -- Assumes nothing.
 use mathlib.Core.Bool.{Bool, cond}
-use mathlib.Core.List.{List, [], _∷_, _++_, map}
+use mathlib.Core.List.{List, _++_, map}
+use mathlib.Core.Option.{Option, none, some}
 use Prim.Native.Nat.{ℕ}
-use lib.Dec.{eqb}
 use Rattle.model.specs.declared.Job.{Job}
 use Rattle.model.specs.Timetable.{Chosen, Placed}
 use Rattle.model.specs.FreeOrder.{laid}
@@ -13,16 +13,20 @@ use Rattle.table.specs.declared.Table.{Table}
 use Rattle.table.specs.declared.refusal.Refusal.the-variants.{None}
 use Rattle.table.specs.Refusals.{refusalSays}
 use Rattle.table.specs.Tables.{jobTable}
+use Rattle.lookup.specs.Lookup.{jobOf}
 use Rattle.plan.specs.declared.Step.{Step}
 use Rattle.plan.specs.Plans.{stepsOf}
 use Rattle.draft.specs.declared.Draft.{Draft}
 use Rattle.draft.specs.declared.Drafted.{Drafted}
 use Rattle.listing.specs.Listing.{firstLine, jobLines, lastLine, refusedText}
 
--- the first job with this id
-unfoldable pub jobWith : List Job → ℕ → Job
-jobWith [] id = noJob
-jobWith (j ∷ js) id = cond (eqb (j .id) id) j (jobWith js id)
+-- the job with this id; every step of a plan has one
+abbrev pub orNone : Option Job → Job
+orNone none = noJob
+orNone (some j) = j
+
+abbrev pub jobWith : List Job → ℕ → Job
+jobWith js id = orNone (jobOf js id)
 
 -- a step with its job
 abbrev pub chosenBy : List Job → Step → Chosen

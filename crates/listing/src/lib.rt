@@ -12,15 +12,16 @@ use table::refusal::Refusal;
 ghost use mathlib.Core.Path.{_≡_};
 ghost use mathlib.Core.List.{_++_};
 ghost use Prim.Native.Nat.{_+_, _≤_};
-ghost use lib.ListN.{length};
+ghost use lib.ListN.{length, getD};
 ghost use Rattle.model.specs.FreeOrder.{laid};
+ghost use Rattle.model.specs.Positions.{noJob};
 ghost use Rattle.table.specs.Limits.{mostJobs};
 ghost use Rattle.table.specs.Refusals.{refusalSays};
 ghost use Rattle.table.specs.Tables.{jobTable};
 ghost use Rattle.plan.specs.Plans.{stepsOf};
 ghost use Rattle.bytes.specs.Decimals.{decimal};
 ghost use Rattle.bytes.specs.Writing.{Wrote};
-ghost use Rattle.listing.specs.Found.{jobWith, chosenFor, placed, draftText, madeText};
+ghost use Rattle.listing.specs.Found.{chosenFor, placed, draftText, madeText};
 ghost use Rattle.listing.specs.Listing.{choiceWord, jobLine, pairLine, jobLines, refusedText, Lists};
 
 // The text's length, or no room for the longest text.
@@ -72,19 +73,13 @@ fn put_job_line(out: &mut [u8], at: usize, job: Job, away: bool, start: usize) -
     put_pair(out, b, b" ", end, b" ", finish)
 }
 
-// The job of the table with this id; ids are distinct, and every step of a plan has one.
-fn job_with(t: Table, id: u8) -> Job
+// The i-th job of the table, and one of no length behind the last.
+fn job_at(t: Table, i: usize) -> Job
     requires { ⌜ t .count ≤ mostJobs ⌝ }
-    ensures { λ r. ⌜ r ≡ jobWith (jobTable t .jobs) id ⌝ }
+    ensures { λ r. ⌜ r ≡ getD (jobTable t .jobs) i noJob ⌝ }
 {
-    let n = t.count;
-    let mut i = 0;
-    while i < n {
-        let job = t.jobs[i];
-        if job.id == id {
-            return job;
-        }
-        i += 1;
+    if i < t.count {
+        return t.jobs[i];
     }
     Job {
         id: 0,
@@ -99,13 +94,14 @@ fn put_lines(out: &mut [u8], from: usize, plan: Plan, t: Table) -> usize
     ensures { λ r. ⌜ Wrote (now (out .entry)) from (jobLines (laid 0 (chosenFor (jobTable t .jobs) (stepsOf plan)))) (now (out .exit)) r ⌝ }
 {
     let n = plan.count;
+    let index = lookup::index_of(t);
     let mut i = 0;
     let mut at = from;
     let mut start = 0;
     while i < n {
         let step = plan.steps[i];
         let away = step.away;
-        let job = job_with(t, step.id);
+        let job = job_at(t, index[step.id as usize] as usize);
         at = put_job_line(out, at, job, away, start);
         start += model::span_of(job, away) as usize;
         i += 1;

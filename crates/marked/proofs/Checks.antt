@@ -7,9 +7,10 @@ use native.Mathlib.Omega.{arith}
 use lib.ListN.{getD}
 use Rattle.table.specs.Records.{formOf, judged, used, listFrom}
 use Rattle.table.specs.Tables.{frameAt, jobAt, jobsRead, readTable}
+use Rattle.lookup.specs.Lookup.{withKey}
 use Rattle.plan.specs.Plans.{readPlan, recordAt}
 use Rattle.judge.specs.declared.Checked.{Checked}
-use Rattle.judge.specs.Check.{checkedSays, jobOf, listed, lacksOne, checkPlan}
+use Rattle.judge.specs.Check.{checkedSays, listed, lacksOne, checkPlan}
 use Rattle.marked.specs.Marked.{E, planE}
 use Rattle.faults.specs.Allows.{CheckAllows}
 use Rattle.marked.specs.Versions.{verdict, PassesAll, PassesNone}
@@ -17,11 +18,11 @@ use Rattle.marked.proofs.Examples.{bytes44}
 
 -- E with its plan: last finish 45, busy total 40; with D 44: LATE
 pub passes-45 : checkedSays (checkPlan E planE) ≡ 0 ∷ 45 ∷ 40 ∷ []
-unfolding checkPlan E readTable frameAt jobsRead jobAt judged formOf listFrom used readPlan recordAt jobOf listed lacksOne
+unfolding checkPlan E readTable frameAt jobsRead jobAt judged formOf listFrom used readPlan recordAt withKey listed lacksOne
 passes-45 = refl
 
 pub late-44 : checkedSays (checkPlan bytes44 planE) ≡ 11 ∷ []
-unfolding checkPlan readTable frameAt jobsRead jobAt judged formOf listFrom used readPlan recordAt jobOf listed lacksOne
+unfolding checkPlan readTable frameAt jobsRead jobAt judged formOf listFrom used readPlan recordAt withKey listed lacksOne
 late-44 = refl
 
 module _ (check : List ℕ → List ℕ → Checked) (meets : (s p : List ℕ) → CheckAllows s p (check s p)) where

@@ -5,9 +5,10 @@ use mathlib.Core.List.{[], _∷_, _++_}
 use native.Mathlib.Omega.{arith}
 use Rattle.table.specs.Records.{formOf, judged, used, listFrom}
 use Rattle.table.specs.Tables.{frameAt, jobAt, jobsRead, readTable}
+use Rattle.lookup.specs.Lookup.{withKey}
 use Rattle.plan.specs.Plans.{planBytes, readPlan, recordAt}
-use Rattle.judge.specs.Check.{jobOf, listed, lacksOne, checkPlan}
-use Rattle.frame.specs.declared.Reading.the-variants.{Fresh, Late}
+use Rattle.judge.specs.Check.{listed, lacksOne, checkPlan}
+use Rattle.frame_record.specs.declared.Reading.the-variants.{Fresh, Late}
 use Rattle.frame_promises.specs.History.{replies, reportOf, without}
 use Rattle.marked.specs.Marked.{either, stays, stayFrom, framed, E, planE, turned, one, upTo, marked, AllHold}
 use Rattle.marked.proofs.Cases.{plan-case, none-case, given-case, least-case}
@@ -18,7 +19,7 @@ abbrev and : {P Q : Type 0} → P → Q → P × Q
 and p q = (p, q)
 
 pub marked-hold : AllHold
-unfolding AllHold marked E readTable frameAt jobsRead jobAt judged formOf listFrom used planBytes readPlan recordAt jobOf listed lacksOne checkPlan lastOf replies reportOf without
+unfolding AllHold marked E readTable frameAt jobsRead jobAt judged formOf listFrom used planBytes readPlan recordAt withKey listed lacksOne checkPlan lastOf replies reportOf without
 marked-hold =
     and (plan-case E tableE refl chosenE refl)
     (and (none-case (framed 44 (either 1 30 5 40 ++ (either 2 20 10 10 ++ stays 3 25))) (jobTable 44 (e1 ∷ e2 ∷ e3 ∷ [])) refl refl)

@@ -6,11 +6,11 @@ use Prim.Native.Nat.{ℕ}
 use Rattle.table.specs.declared.TableRead.{TableRead}
 use Rattle.table.specs.Tables.{readTable, tableRead, verdictSays}
 use Rattle.judge.specs.Check.{checkedSays, checkPlan}
-use Rattle.frame.specs.declared.Event.{Event}
-use Rattle.frame.specs.declared.Event.the-variants.{Read}
-use Rattle.frame.specs.declared.Reading.{Reading}
-use Rattle.frame.specs.Step.{Reply, readingSays}
-use Rattle.frame.specs.Run.{Call, begin, event}
+use Rattle.frame_record.specs.declared.Event.{Event}
+use Rattle.frame_record.specs.declared.Event.the-variants.{Read}
+use Rattle.frame_record.specs.declared.Reading.{Reading}
+use Rattle.frame_record.specs.Answers.{Reply, readingSays}
+use Rattle.frame_promises.specs.Call.{Call, begin, event}
 use Rattle.frame_promises.specs.History.{Turn, idle, done, replies}
 use Rattle.frame_promises.proofs.Replies.{replies-told}
 use Rattle.marked.specs.Marked.{Claimed, reads, checks, after-events}

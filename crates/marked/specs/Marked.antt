@@ -15,12 +15,12 @@ use Rattle.table.specs.declared.TableRead.{TableRead}
 use Rattle.planner.specs.declared.Planned.{Planned}
 use Rattle.planner.specs.declared.Least.{Least}
 use Rattle.planner.specs.Answers.{plannedSays, leastSays, Refuses}
-use Rattle.frame.specs.declared.Event.{Event}
-use Rattle.frame.specs.declared.Event.the-variants.{SpanEnd, Return, Read}
-use Rattle.frame.specs.declared.Reading.{Reading}
-use Rattle.frame.specs.declared.Reading.the-variants.{Fresh, Late}
-use Rattle.frame.specs.Step.{Reply, readingSays}
-use Rattle.frame.specs.Run.{begin, event}
+use Rattle.frame_record.specs.declared.Event.{Event}
+use Rattle.frame_record.specs.declared.Event.the-variants.{SpanEnd, Return, Read}
+use Rattle.frame_record.specs.declared.Reading.{Reading}
+use Rattle.frame_record.specs.declared.Reading.the-variants.{Fresh, Late}
+use Rattle.frame_record.specs.Answers.{Reply, readingSays}
+use Rattle.frame_promises.specs.Call.{begin, event}
 use Rattle.accord.specs.Allows.{FreeAllows, GivenAllows, LeastAllows}
 use Rattle.judge.specs.declared.Checked.{Checked}
 use Rattle.judge.specs.Check.{checkedSays}

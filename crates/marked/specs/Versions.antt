@@ -18,14 +18,14 @@ use Rattle.planner.specs.declared.Least.{Least}
 use Rattle.planner.specs.Answers.{plannedSays, leastSays}
 use Rattle.judge.specs.declared.Checked.{Checked}
 use Rattle.judge.specs.Check.{checkedSays}
-use Rattle.frame.specs.declared.Frame.{Frame}
-use Rattle.frame.specs.declared.Sample.{Sample}
-use Rattle.frame.specs.declared.Reading.the-variants.{Fresh}
-use Rattle.frame.specs.declared.Answer.the-variants.{Done, Read}
-use Rattle.frame.specs.declared.Event.{Event}
-use Rattle.frame.specs.declared.Event.the-variants as E
-use Rattle.frame.specs.declared.Step.{Step}
-use Rattle.frame.specs.Step.{idle}
+use Rattle.frame_record.specs.declared.Frame.{Frame}
+use Rattle.frame_record.specs.declared.Sample.{Sample}
+use Rattle.frame_record.specs.declared.Reading.the-variants.{Fresh}
+use Rattle.frame_record.specs.declared.Answer.the-variants.{Done, Read}
+use Rattle.frame_record.specs.declared.Event.{Event}
+use Rattle.frame_record.specs.declared.Event.the-variants as E
+use Rattle.frame_record.specs.declared.Called.{Called}
+use Rattle.frame_record.specs.Answers.{idle}
 
 -- A planner: its answer, and the area afterwards, for every table and every area before.
 pub record Planner : Type 0 where
@@ -109,8 +109,8 @@ PassesNone check = (s p : List ℕ) → ¬ (verdict (check s p) ≡ 0)
 
 -- A runner: what begin and every other call give.
 pub record Runner : Type 0 where
-  pub begin : Frame → List ℕ → List ℕ → ℕ → Step
-  pub step : Frame → Event → Step
+  pub begin : Frame → List ℕ → List ℕ → ℕ → Called
+  pub step : Frame → Event → Called
 
 module _ (r : Runner) where
   -- the record after events

@@ -60,6 +60,10 @@ module _ {A : Type 0} where
   member-all P h (List·Memᴰ·head e) = subst P (sym e) (h .0)
   member-all P h (List·Memᴰ·tail m) = member-all P (h .1) m
 
+  pub all-members : (xs : List A) → All (λ (x : A). List·Memᴰ x xs) xs
+  all-members [] = tt
+  all-members (x ∷ xs) = (List·Memᴰ·head refl, all-map (λ y m. List·Memᴰ·tail m) xs (all-members xs))
+
   pub take-all : (xs : List A) (i : ℕ) → length xs ≤ i → take i xs ≡ xs
   take-all [] zero h = refl
   take-all [] (suc i) h = refl

@@ -6,7 +6,7 @@ use mathlib.Core.List.{List}
 use lib.ListN.{length, take, drop, length-drop}
 use lib.Seq.{take-all, drop-drop}
 use borrow.Author.Tests.{eq-eqb, ne-eqb}
-use Rattle.frame.specs.declared.Frame.{Frame}
+use Rattle.frame_record.specs.declared.Frame.{Frame}
 use Rattle.replaying.specs.Log.{callOf, recordSize, after}
 
 pub record Going (log : List ℕ) (first now : Frame) (at : ℕ) : Type 0 where

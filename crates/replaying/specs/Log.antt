@@ -6,12 +6,13 @@ use mathlib.Core.List.{List}
 use lib.ListN.{length, getD, take, drop}
 use lib.Dec.{ltb, leb, eqb}
 use lib.Ieee.{Float, nan, nanBits, ofBits, binary32}
-use Rattle.frame.specs.declared.Frame.{Frame}
-use Rattle.frame.specs.declared.Step.{Step}
-use Rattle.frame.specs.declared.Event.{Event}
-use Rattle.frame.specs.declared.Event.the-variants as E
-use Rattle.frame.specs.Step.{idle, eventStep}
-use Rattle.frame.specs.Begin.{beginStep}
+use Rattle.frame_record.specs.declared.Frame.{Frame}
+use Rattle.frame_record.specs.declared.Called.{Called}
+use Rattle.frame_record.specs.declared.Event.{Event}
+use Rattle.frame_record.specs.declared.Event.the-variants as E
+use Rattle.frame_record.specs.Answers.{idle}
+use Rattle.frame_calls.specs.Calls.{eventStep}
+use Rattle.frame_begin.specs.Begin.{beginStep}
 
 -- the byte at a place, 0 past the end
 unfoldable pub byteAt : List ℕ → ℕ → ℕ
@@ -56,14 +57,14 @@ unfoldable pub recordSize : List ℕ → ℕ
 recordSize s = cond (eqb (length s) 0) 0 (sizeOf s (headSize (byteAt s 0)))
 
 -- begin with the table and the plan of a record, which stand there in a whole one
-unfoldable pub beginOf : Frame → List ℕ → Step
+unfoldable pub beginOf : Frame → List ℕ → Called
 beginOf f s =
     cond (leb (9 + low16 s 5) (length s))
     (beginStep f (take (9 + low16 s 5 - 9) (drop 9 s)) (take (length s - (9 + low16 s 5)) (drop (9 + low16 s 5) s)) (low32 s 1))
     (eventStep f E.Next)
 
 -- the call that a record makes
-unfoldable pub callOf : Frame → List ℕ → Step
+unfoldable pub callOf : Frame → List ℕ → Called
 callOf f s = cond (eqb (byteAt s 0) 0x40) (beginOf f s) (eventStep f (eventOf s (byteAt s 0)))
 
 -- the frame's record after the calls at the front of s, of which there may be `most`

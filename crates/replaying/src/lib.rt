@@ -1,11 +1,11 @@
 // A frame's log as text: calls read from bytes, made one after another on one record, a line written for each.
 // specs/Log.antt has a record's length, the call that it is, and the frame's record after a whole log; the code is proved to give those.
 // The lines go to standard output, of which no contract can speak: their words, and where a run stops, are only tested (crate replay, stdin and stdout).
-use frame::Answer;
-use frame::Event;
-use frame::Frame;
-use frame::Reading;
-use frame::Step;
+use frame_record::Answer;
+use frame_record::Called;
+use frame_record::Event;
+use frame_record::Frame;
+use frame_record::Reading;
 use table::refusal;
 use table::refusal::Refusal;
 ghost use mathlib.Core.Path.{_≡_};
@@ -130,26 +130,26 @@ fn record_size(s: &[u8]) -> usize
 }
 
 // Begins with the table and the plan of a record; one that is cut, which a whole record is not, begins nothing.
-fn begun(frame: Frame, s: &[u8]) -> Step
+fn begun(frame: Frame, s: &[u8]) -> Called
     ensures { λ r. ⌜ r ≡ beginOf frame (now (s .entry)) ⌝ }
 {
     let end = 9 + two(s, 5) as usize;
     if end <= s.len() {
         let table = &s[9..end];
         let plan = &s[end..];
-        return frame.begin(table, plan, four(s, 1));
+        return frame_begin::begin(frame, table, plan, four(s, 1));
     }
-    frame.step(Event::Next)
+    frame_calls::step(frame, Event::Next)
 }
 
 // Makes the call of a record.
-fn called(frame: Frame, s: &[u8]) -> Step
+fn called(frame: Frame, s: &[u8]) -> Called
     ensures { λ r. ⌜ r ≡ callOf frame (now (s .entry)) ⌝ }
 {
     if byte(s, 0) == 0x40 {
         return begun(frame, s);
     }
-    frame.step(event_of(s))
+    frame_calls::step(frame, event_of(s))
 }
 
 fn write_word(kind: u32) {

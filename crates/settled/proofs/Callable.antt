@@ -4,7 +4,10 @@ use Rattle.table.proofs as table
 use Rattle.plan.proofs as plan
 use Rattle.planner.proofs as planner
 use Rattle.judge.proofs as judge
-use Rattle.frame.proofs as frame
+use Rattle.frame_record.proofs as frame-record
+use Rattle.frame_begin.proofs as frame-begin
+use Rattle.frame_reports.proofs as frame-reports
+use Rattle.frame_calls.proofs as frame-calls
 use Rattle.listing.proofs as listing
 use Rattle.replaying.proofs as replaying
 use Rattle.panel.proofs as panel
@@ -34,34 +37,40 @@ least-deadline κs i = tt
 pub check-plan : AsksNothing judge.check_plan.ended judge.check_plan.Reads.Pre
 check-plan κs i = tt
 
-pub finite : AsksNothing frame.finite.ended frame.finite.Reads.Pre
+pub finite : AsksNothing frame-record.finite.ended frame-record.finite.Reads.Pre
 finite κs i = tt
 
-pub idle : AsksNothing frame.Frame.idle.ended frame.Frame.idle.Reads.Pre
+pub idle : AsksNothing frame-record.Frame.idle.ended frame-record.Frame.idle.Reads.Pre
 idle κs i = tt
 
-pub sound : AsksNothing frame.Frame.sound.ended frame.Frame.sound.Reads.Pre
+pub sound : AsksNothing frame-record.Frame.sound.ended frame-record.Frame.sound.Reads.Pre
 sound κs i = tt
 
-pub begin : AsksNothing frame.Frame.begin.ended frame.Frame.begin.Reads.Pre
+pub is-in : AsksNothing frame-record.Frame.is_in.ended frame-record.Frame.is_in.Reads.Pre
+is-in κs i = tt
+
+pub refuse : AsksNothing frame-record.Frame.refuse.ended frame-record.Frame.refuse.Reads.Pre
+refuse κs i = tt
+
+pub begin : AsksNothing frame-begin.begin.ended frame-begin.begin.Reads.Pre
 begin κs i = tt
 
-pub step : AsksNothing frame.Frame.step.ended frame.Frame.step.Reads.Pre
+pub step : AsksNothing frame-calls.step.ended frame-calls.step.Reads.Pre
 step κs i = tt
 
-pub panel-job : AsksNothing frame.Frame.panel_job.ended frame.Frame.panel_job.Reads.Pre
+pub panel-job : AsksNothing frame-calls.panel_job.ended frame-calls.panel_job.Reads.Pre
 panel-job κs i = tt
 
-pub span-end : AsksNothing frame.Frame.span_end.ended frame.Frame.span_end.Reads.Pre
+pub span-end : AsksNothing frame-reports.span_end.ended frame-reports.span_end.Reads.Pre
 span-end κs i = tt
 
-pub give-back : AsksNothing frame.Frame.give_back.ended frame.Frame.give_back.Reads.Pre
+pub give-back : AsksNothing frame-reports.give_back.ended frame-reports.give_back.Reads.Pre
 give-back κs i = tt
 
-pub close : AsksNothing frame.Frame.close.ended frame.Frame.close.Reads.Pre
+pub close : AsksNothing frame-calls.close.ended frame-calls.close.Reads.Pre
 close κs i = tt
 
-pub read : AsksNothing frame.Frame.read.ended frame.Frame.read.Reads.Pre
+pub read : AsksNothing frame-calls.read.ended frame-calls.read.Reads.Pre
 read κs i = tt
 
 pub list-plan : AsksNothing listing.list_plan.ended listing.list_plan.Reads.Pre

@@ -9,6 +9,7 @@ use Rattle.model.proofs as model
 use Rattle.table.proofs as table
 use Rattle.table.specs.Limits.{largestTime}
 use Rattle.bytes.proofs as bytes
+use Rattle.lookup.proofs as lookup
 use Rattle.plan.proofs as plan
 use Rattle.order.proofs as order
 use Rattle.rows.proofs as rows
@@ -18,13 +19,16 @@ use Rattle.given.proofs as given
 use Rattle.free.proofs as free
 use Rattle.planner.proofs as planner
 use Rattle.judge.proofs as judge
-use Rattle.frame.proofs as frame
+use Rattle.frame_record.proofs as frame-record
+use Rattle.frame_begin.proofs as frame-begin
+use Rattle.frame_reports.proofs as frame-reports
+use Rattle.frame_calls.proofs as frame-calls
 use Rattle.listing.proofs as listing
 use Rattle.replaying.proofs as replaying
 use Rattle.panel.proofs as panel
 use Rattle.frame_lent.proofs as frame-lent
 use Rattle.panel.specs.Numbers.{plannedNumbers, leastNumbers}
-use Rattle.frame.specs.declared.Step.{Step}
+use Rattle.frame_record.specs.declared.Called.{Called}
 use Rattle.settled.specs.Settled.{Settles, SettlesAsked}
 use Rattle.frame_promises.specs.Lent.{BeginIn, CallIn}
 
@@ -71,13 +75,18 @@ numbers-of κs i r s m n p q = (p ∙ sym q, refl)
 pub read-table : Settles table.read_table.ended table.read_table.Reads.Learnt
 read-table κs i r s m n p q = (p ∙ sym q, refl)
 
--- ---- text
+-- ---- bytes
 
 pub put : Settles bytes.put.ended bytes.put.Reads.Learnt
 put κs i r s m n p q = (p .place ∙ sym (q .place), λ k. ((p .area ∙ sym (q .area)) k, m .1))
 
 pub put-number : Settles bytes.put_number.ended bytes.put_number.Reads.Learnt
 put-number κs i r s m n p q = (p .place ∙ sym (q .place), λ k. ((p .area ∙ sym (q .area)) k, m .1))
+
+-- ---- lookup
+
+pub index-of : Settles lookup.index_of.ended lookup.index_of.Reads.Learnt
+index-of κs i r s m n p q = (lookup.Lookup.indexes-one _ r s p q, refl)
 
 -- ---- plan
 
@@ -161,43 +170,52 @@ check-read κs i r s m n p q = (p ∙ sym q, refl)
 pub check-plan : Settles judge.check_plan.ended judge.check_plan.Reads.Learnt
 check-plan κs i r s m n p q = (p ∙ sym q, refl)
 
--- ---- frame, frame_lent
+-- ---- the frame runner
 
-pub finite : Settles frame.finite.ended frame.finite.Reads.Learnt
+pub finite : Settles frame-record.finite.ended frame-record.finite.Reads.Learnt
 finite κs i r s m n p q = (p ∙ sym q, refl)
 
-pub frame-idle : Settles frame.Frame.idle.ended frame.Frame.idle.Reads.Learnt
+pub frame-idle : Settles frame-record.Frame.idle.ended frame-record.Frame.idle.Reads.Learnt
 frame-idle κs i r s m n p q = (p ∙ sym q, refl)
 
-pub sound : Settles frame.Frame.sound.ended frame.Frame.sound.Reads.Learnt
+pub sound : Settles frame-record.Frame.sound.ended frame-record.Frame.sound.Reads.Learnt
 sound κs i r s m n p q = (p ∙ sym q, refl)
 
-pub begin : Settles frame.Frame.begin.ended frame.Frame.begin.Reads.Learnt
+pub is-in : Settles frame-record.Frame.is_in.ended frame-record.Frame.is_in.Reads.Learnt
+is-in κs i r s m n p q = (p ∙ sym q, refl)
+
+pub refuse : Settles frame-record.Frame.refuse.ended frame-record.Frame.refuse.Reads.Learnt
+refuse κs i r s m n p q = (p ∙ sym q, refl)
+
+pub place-of : Settles frame-record.Frame.place_of.ended frame-record.Frame.place_of.Reads.Learnt
+place-of κs i r s m n p q = (p ∙ sym q, refl)
+
+pub begin : Settles frame-begin.begin.ended frame-begin.begin.Reads.Learnt
 begin κs i r s m n p q = (p ∙ sym q, refl)
 
-pub panel-job : Settles frame.Frame.panel_job.ended frame.Frame.panel_job.Reads.Learnt
+pub panel-job : Settles frame-calls.panel_job.ended frame-calls.panel_job.Reads.Learnt
 panel-job κs i r s m n p q = (p ∙ sym q, refl)
 
-pub span-end : Settles frame.Frame.span_end.ended frame.Frame.span_end.Reads.Learnt
+pub span-end : Settles frame-reports.span_end.ended frame-reports.span_end.Reads.Learnt
 span-end κs i r s m n p q = (p ∙ sym q, refl)
 
-pub give-back : Settles frame.Frame.give_back.ended frame.Frame.give_back.Reads.Learnt
+pub give-back : Settles frame-reports.give_back.ended frame-reports.give_back.Reads.Learnt
 give-back κs i r s m n p q = (p ∙ sym q, refl)
 
-pub close : Settles frame.Frame.close.ended frame.Frame.close.Reads.Learnt
+pub close : Settles frame-calls.close.ended frame-calls.close.Reads.Learnt
 close κs i r s m n p q = (p ∙ sym q, refl)
 
-pub read : Settles frame.Frame.read.ended frame.Frame.read.Reads.Learnt
+pub read : Settles frame-calls.read.ended frame-calls.read.Reads.Learnt
 read κs i r s m n p q = (p ∙ sym q, refl)
 
-pub step : Settles frame.Frame.step.ended frame.Frame.step.Reads.Learnt
+pub step : Settles frame-calls.step.ended frame-calls.step.Reads.Learnt
 step κs i r s m n p q = (p ∙ sym q, refl)
 
 pub begin-in : Settles frame-lent.begin_in.ended BeginIn
-begin-in κs i r s m n p q = let same = p ∙ sym q in (ap (λ (x : Step). x .answer) same, λ k. (same k .frame, m .1))
+begin-in κs i r s m n p q = let same = p ∙ sym q in (ap (λ (x : Called). x .answer) same, λ k. (same k .frame, m .1))
 
 pub call-in : Settles frame-lent.call_in.ended CallIn
-call-in κs i r s m n p q = let same = p ∙ sym q in (ap (λ (x : Step). x .answer) same, λ k. (same k .frame, m .1))
+call-in κs i r s m n p q = let same = p ∙ sym q in (ap (λ (x : Called). x .answer) same, λ k. (same k .frame, m .1))
 
 -- ---- listing, replaying
 

@@ -14,11 +14,12 @@ use Rattle.judge.specs.declared.Checked.the-variants.{Fails}
 use Rattle.judge.specs.Check.{checkPlan}
 use Rattle.judge.proofs as judge
 use Rattle.faults.specs.Allows.{Tells, to}
-use Rattle.frame.specs.declared.Frame.{Frame}
-use Rattle.frame.specs.declared.Answer.the-variants.{Refused}
-use Rattle.frame.specs.declared.Event.the-variants.{Next}
-use Rattle.frame.specs.Sound.{sound?, open?}
-use Rattle.frame.specs.Step.{idle, nextOf}
+use Rattle.frame_record.specs.declared.Frame.{Frame}
+use Rattle.frame_record.specs.declared.Answer.the-variants.{Refused}
+use Rattle.frame_record.specs.declared.Event.the-variants.{Next}
+use Rattle.frame_record.specs.Sound.{sound?, open?}
+use Rattle.frame_record.specs.Answers.{idle}
+use Rattle.frame_calls.specs.Calls.{nextOf}
 use Rattle.frame_lent.proofs as frame-lent
 use Rattle.settled.specs.Settled.{Settles}
 use Rattle.frame_promises.specs.Lent.{CallIn}

@@ -18,7 +18,7 @@ use Rattle.table.specs.declared.kind.Form.{Form}
 use Rattle.table.specs.declared.kind.Meaning.the-variants.{Row, Unknown}
 use Rattle.table.specs.declared.kind.RowKind.the-variants.{HereRow}
 use Rattle.table.specs.declared.refusal.Place.{Place}
-use Rattle.table.specs.declared.refusal.Refusal.the-variants.{Twice, Late}
+use Rattle.table.specs.declared.refusal.Refusal.the-variants.{Twice, Late, Phase}
 use Rattle.table.specs.declared.refusal.Said.{Said}
 use Rattle.table.specs.Limits.{mostJobs}
 use Rattle.table.specs.Records.{form, formOf}
@@ -35,11 +35,16 @@ use Rattle.draft.specs.declared.Draft.{Draft}
 use Rattle.draft.specs.Drafts.{draftOf, withChosen}
 use Rattle.draft.proofs as draft
 use Rattle.faults.specs.Allows.{to}
-use Rattle.frame.specs.declared.Frame.{Frame}
-use Rattle.frame.specs.declared.Phase.the-variants.{Open}
-use Rattle.frame.specs.Sound.{sound?, okBegun}
-use Rattle.frame.specs.Step.{idle}
-use Rattle.frame.proofs as frame
+use Rattle.frame_record.specs.declared.Frame.{Frame}
+use Rattle.frame_record.specs.declared.Phase.the-variants.{Open}
+use Rattle.frame_record.specs.declared.Answer.the-variants.{Done, Refused}
+use Rattle.frame_record.specs.declared.Called.{Called}
+use Rattle.lookup.specs.declared.Found.{Found}
+use Rattle.lookup.specs.declared.Found.the-variants.{At, Nowhere}
+use Rattle.lookup.specs.Lookup.{first}
+use Rattle.frame_record.specs.Sound.{whereIs, sound?, okBegun}
+use Rattle.frame_record.specs.Answers.{idle}
+use Rattle.frame_record.proofs as frame-record
 use Rattle.settled.specs.Settled.{RulesOut}
 
 abbrev job : Job
@@ -229,12 +234,12 @@ flags-of = (
   (λ m e. clash (cc (ap (λ (bs : List Bool). getD bs 0 false) (e (job ∷ job ∷ []) refl)))),
 )
 
--- ---- frame
+-- ---- the frame's record
 
 -- the number 1 refused, what is not a number let through
 pub finite :
-    RulesOut frame.finite.ended frame.finite.Reads.Learnt tt (fin false 1 (pos 0), tt) false
-    × RulesOut frame.finite.ended frame.finite.Reads.Learnt tt (nan, tt) true
+    RulesOut frame-record.finite.ended frame-record.finite.Reads.Learnt tt (fin false 1 (pos 0), tt) false
+    × RulesOut frame-record.finite.ended frame-record.finite.Reads.Learnt tt (nan, tt) true
 finite = ((λ m e. clash (cc)), (λ m e. clash (cc)))
 
 -- a record that is open, or has a number, is not the idle one; and a begun record without a deadline is not sound, an idle one is
@@ -242,7 +247,7 @@ abbrev opened : ℕ → Frame
 opened n = record { phase = Open; number = n; clock = 0; deadline = 0; count = 0; next = 0; order = idle .order; entries = idle .entries }
 
 abbrev IdleNot : Frame → Type 0
-IdleNot f = RulesOut frame.Frame.idle.ended frame.Frame.idle.Reads.Learnt tt tt f
+IdleNot f = RulesOut frame-record.Frame.idle.ended frame-record.Frame.idle.Reads.Learnt tt tt f
 
 pub frame-idle : IdleNot (opened 0) × IdleNot (opened 1)
 frame-idle = (
@@ -251,8 +256,38 @@ frame-idle = (
 )
 
 abbrev SoundNot : Frame → Bool → Type 0
-SoundNot f r = RulesOut frame.Frame.sound.ended frame.Frame.sound.Reads.Learnt tt (f, tt) r
+SoundNot f r = RulesOut frame-record.Frame.sound.ended frame-record.Frame.sound.Reads.Learnt tt (f, tt) r
 
 pub sound : SoundNot (opened 0) true × SoundNot idle false
 unfolding sound? okBegun
 sound = ((λ m e. clash (cc)), (λ m e. clash (cc)))
+
+-- an unsound record in a phase that is allowed, a sound one in none
+abbrev InNot : Frame → (before during after r : Bool) → Type 0
+InNot f before during after r =
+    RulesOut frame-record.Frame.is_in.ended frame-record.Frame.is_in.Reads.Learnt tt (f, (before, (during, (after, tt)))) r
+
+pub is-in : InNot (opened 0) false true false true × InNot idle false true true true
+unfolding sound? okBegun
+is-in = ((λ m e. clash (cc)), (λ m e. clash (cc)))
+
+-- a refusal that is said as done, and one that alters the record
+abbrev RefuseNot : Called → Type 0
+RefuseNot s = RulesOut frame-record.Frame.refuse.ended frame-record.Frame.refuse.Reads.Learnt tt (idle, (Phase, tt)) s
+
+pub refuse : RefuseNot (record { answer = Done; frame = idle }) × RefuseNot (record { answer = Refused Phase; frame = opened 0 })
+refuse = (
+  (λ m e. clash (cc (ap (λ (s : Called). s .answer) e))),
+  (λ m e. clash (cc (ap (λ (s : Called). s .frame .phase) e))),
+)
+
+-- in a table with the one job 0: that job not found, another one found
+abbrev single : Frame
+single = record { phase = Open; number = 0; clock = 0; deadline = 1; count = 1; next = 0; order = idle .order; entries = idle .entries }
+
+abbrev PlaceNot : ℕ → Found → Type 0
+PlaceNot id r = RulesOut frame-record.Frame.place_of.ended frame-record.Frame.place_of.Reads.Learnt tt (single, (id, tt)) r
+
+pub place-of : PlaceNot 0 Nowhere × PlaceNot 1 (At 0)
+unfolding whereIs first
+place-of = ((λ m e. clash (cc)), (λ m e. clash (cc)))

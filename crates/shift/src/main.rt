@@ -1,11 +1,11 @@
 // A shift: a hundred thousand frames of Table E played through the frame runner, on one record from idle, with frame numbers that rise.
 // In every 7th frame job 1's answer comes one tick after the deadline, and in the next frame it is offered again under its old number;
 // in every 10th frame job 2's answer never comes. Prints what was read, and how many readings were not this frame's own.
-use frame::Answer;
-use frame::Event;
-use frame::Frame;
-use frame::Reading;
-use frame::Sample;
+use frame_record::Answer;
+use frame_record::Event;
+use frame_record::Frame;
+use frame_record::Reading;
+use frame_record::Sample;
 use table::refusal::Refusal;
 
 const FRAMES: u32 = 100000;
@@ -166,13 +166,14 @@ fn reading_place(answer: Answer, number: u32, id: u8) -> usize {
 fn begun(before: Played, number: u32) -> Played {
     let frame = before.frame;
     let counts = before.counts;
-    let step = frame.begin(
+    let made = frame_begin::begin(
+        frame,
         b"\x10\x2D\x00\x12\x01\x1E\x00\x05\x00\x28\x00\x12\x02\x14\x00\x0A\x00\x0A\x00\x11\x03\x19\x00\x1F",
         b"\x21\x01\x21\x02\x20\x03\x2F",
         number,
     );
-    let after = step.frame;
-    let answer = step.answer;
+    let after = made.frame;
+    let answer = made.answer;
     let place = if place_of(answer) == ACCEPTED {
         BEGUN
     } else {
@@ -190,9 +191,9 @@ fn run(before: Played, number: u32) -> Played {
     let mut counts = before.counts;
     let mut k = 0;
     while k < 7 {
-        let step = frame.step(event_of(number, k));
-        let answer = step.answer;
-        let after = step.frame;
+        let made = frame_calls::step(frame, event_of(number, k));
+        let answer = made.answer;
+        let after = made.frame;
         frame = after;
         counts = counts.with(CALLS).with(place_of(answer));
         k += 1;
@@ -206,8 +207,8 @@ fn read(before: Played, number: u32) -> Played {
     let mut counts = before.counts;
     let mut id = 1;
     while id <= 3 {
-        let step = frame.step(Event::Read(id));
-        let answer = step.answer;
+        let made = frame_calls::step(frame, Event::Read(id));
+        let answer = made.answer;
         counts = counts.with(CALLS).with(reading_place(answer, number, id));
         id += 1;
     }

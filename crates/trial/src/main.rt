@@ -20,13 +20,13 @@ ghost use Prim.Native.Nat.{_≤_};
 
 const TABLES: u64 = 4000;
 
-// A planner's answer, against the one that goes with the best choice.
-fn plan_findings(answer: Answer, best: Best, expected: Answer) -> u64 {
-    report::mark(report::PLAN, answer.number == 0)
-        | report::mark(report::NONE, answer.number == 7)
+// A planner's answer with this number, which differs from the one that goes with the best choice or does not.
+fn plan_findings(number: usize, best: Best, differs: bool) -> u64 {
+    report::mark(report::PLAN, number == 0)
+        | report::mark(report::NONE, number == 7)
         | report::mark(report::TIE, best.tied)
         | report::mark(report::AWAY, best.choice != 0)
-        | report::mark(report::DIFFERS, answers::differ(answer, expected))
+        | report::mark(report::DIFFERS, differs)
 }
 
 // The given-order plan, against the best choice in table order; `least` is the least deadline that the free order meets.
@@ -37,8 +37,9 @@ fn given_findings(jobs: Jobs, table: Bytes, deadline: u32, least: u32) -> u64
     let best = answers::best_choice(jobs, finishes, deadline, Rule::GivenOrder);
     let expected = answers::answer_of(jobs, best, Rule::GivenOrder);
     let only_free = best.busy == search::NEVER && least <= deadline;
-    (plan_findings(asked::plan_given(table), best, expected) << report::GIVEN)
-        | report::mark(report::ONLY_FREE, only_free)
+    let answer = asked::plan_given(table);
+    let found = plan_findings(answer.number, best, answers::differ(answer, expected));
+    (found << report::GIVEN) | report::mark(report::ONLY_FREE, only_free)
 }
 
 // The least deadline that some choice meets: at least 1, and NONE above the largest time.
@@ -105,9 +106,10 @@ fn planner_findings(
 ) -> u64
     requires { ⌜ jobs .count ≤ 6 ⌝ }
 {
-    let free = plan_findings(asked::plan_free(table), best, right) << report::FREE;
+    let answer = asked::plan_free(table);
+    let free = plan_findings(answer.number, best, answers::differ(answer, right));
     let given = given_findings(jobs, table, deadline, least);
-    free | given | least_findings(table, deadline, least)
+    (free << report::FREE) | given | least_findings(table, deadline, least)
 }
 
 // All that is found of a table; its bytes are shown if it is the first at which a planner differs.

@@ -6,17 +6,17 @@ use mathlib.Core.List.{List}
 use lib.ListN.{length, take, drop}
 use denote.Ref.{now}
 use borrow.Author.Tests.{le-leb, lt-leb}
-use Rattle.frame.specs.declared.Frame.{Frame}
-use Rattle.frame.specs.declared.Step.{Step}
-use Rattle.frame.specs.declared.Event.the-variants as E
-use Rattle.frame.specs.Step.{eventStep}
-use Rattle.frame.specs.Begin.{beginStep}
+use Rattle.frame_record.specs.declared.Frame.{Frame}
+use Rattle.frame_record.specs.declared.Called.{Called}
+use Rattle.frame_record.specs.declared.Event.the-variants as E
+use Rattle.frame_calls.specs.Calls.{eventStep}
+use Rattle.frame_begin.specs.Begin.{beginStep}
 use Rattle.replaying.specs.Log.{low16, low32, beginOf}
 use borrow.Author.Needs.{needs}
 use Rattle.replaying.proofs.begun.Statement.{statement}
 use Rattle.replaying.proofs.begun.Tie as tie
 
-abbrev with-table : Frame → List ℕ → ℕ → ℕ → Step
+abbrev with-table : Frame → List ℕ → ℕ → ℕ → Called
 with-table f s t n = beginStep f (take (9 + t - 9) (drop 9 s)) (take (length s - (9 + t)) (drop (9 + t) s)) n
 
 there : (f : Frame) (s : List ℕ) → 9 + low16 s 5 ≤ length s → beginOf f s ≡ with-table f s (low16 s 5) (low32 s 1)

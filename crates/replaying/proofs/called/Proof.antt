@@ -4,8 +4,8 @@ use mathlib.Core.Path.{_≡_, sym, ap, _∙_}
 use mathlib.Core.List.{List}
 use denote.Ref.{now}
 use borrow.Author.Tests.{eq-eqb, ne-eqb}
-use Rattle.frame.specs.declared.Frame.{Frame}
-use Rattle.frame.specs.Step.{eventStep}
+use Rattle.frame_record.specs.declared.Frame.{Frame}
+use Rattle.frame_calls.specs.Calls.{eventStep}
 use Rattle.replaying.specs.Log.{byteAt, eventOf, beginOf, callOf}
 use borrow.Author.Needs.{needs}
 use Rattle.replaying.proofs.called.Statement.{statement}

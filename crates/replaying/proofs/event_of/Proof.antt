@@ -4,7 +4,7 @@ use mathlib.Core.Path.{_≡_, sym, ap, _∙_}
 use mathlib.Core.List.{List}
 use denote.Ref.{now}
 use borrow.Author.Tests.{ne-eqb}
-use Rattle.frame.specs.declared.Event.the-variants as E
+use Rattle.frame_record.specs.declared.Event.the-variants as E
 use Rattle.replaying.specs.Log.{byteAt, low16, low32, valueOf, eventOf}
 use borrow.Author.Needs.{needs}
 use Rattle.replaying.proofs.event_of.Statement.{statement}

@@ -5,7 +5,7 @@ use lib.ListN.{length}
 use lib.Seq.{length-take-le}
 use denote.Ref.{now}
 use borrow.Author.Needs.{needs}
-use Rattle.frame.specs.declared.Frame.{Frame}
+use Rattle.frame_record.specs.declared.Frame.{Frame}
 use Rattle.replaying.specs.Log.{after, replayed}
 use Rattle.replaying.proofs.Turns.{Going, starts, stops, ends, turn}
 use Rattle.replaying.proofs.replay.Statement.{statement}

@@ -1,6 +1,6 @@
 -- `replaying::shown` meets its contract: the record is the one after the call. Assumes nothing.
 use mathlib.Core.Path.{ap}
-use Rattle.frame.specs.declared.Step.{Step}
+use Rattle.frame_record.specs.declared.Called.{Called}
 use borrow.Author.Needs.{needs}
 use Rattle.replaying.proofs.shown.Statement.{statement}
 use Rattle.replaying.proofs.shown.Tie as tie
@@ -18,7 +18,7 @@ write-answer-requires : tie.Need-write-answer-requires
 write-answer-requires c κs = search needs
 
 returns : tie.Need-returns
-returns c = ap (λ (x : Step). x .frame) (c .before .before .before .before .called .ensures)
+returns c = ap (λ (x : Called). x .frame) (c .before .before .before .before .called .ensures)
 
 pub shown-spec : {M : Type 1} → statement M
 shown-spec =

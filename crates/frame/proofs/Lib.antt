@@ -1,9 +1,0 @@
-pub mod Laws
-pub mod Passed
-pub mod Filled
-pub mod Marks
-pub mod Sound
-pub mod Cases
-pub mod Says
-pub mod Refused
-pub mod Reached

@@ -1,0 +1,4 @@
+pub mod Finite
+pub mod Sound
+pub mod Listed
+pub mod Answers
