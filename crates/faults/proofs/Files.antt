@@ -15,7 +15,7 @@ use Rattle.model.specs.Lists.{All}
 use Rattle.model.proofs.Lists.{all-map, all-append, pairwise-append, member-all}
 use Rattle.table.specs.declared.refusal.Place.{Place}
 use Rattle.table.specs.declared.refusal.Refusal.{Refusal}
-use Rattle.table.specs.declared.refusal.Refusal.the-variants.{Range, Many}
+use Rattle.table.specs.declared.refusal.Refusal.the-variants.{Range, Many, After}
 use Rattle.table.specs.declared.kind.Meaning.{Meaning}
 use Rattle.table.specs.Limits.{mostJobs}
 use Rattle.table.specs.Refusals.{past, refused}
@@ -85,7 +85,9 @@ module _
 
   -- the bytes of a good list and its end record, or a fault
   abbrev pub Told : List ℕ → Type 0
-  Told s = ((xs : List A) × Good xs × (s ≡ joined first ++ flatMap bytesOf xs ++ (end ∷ []))) ⊎ ((f : Refusal) × ListFault idOf bytesOf InRange kinds end first s f)
+  Told s =
+      ((xs : List A) × Good xs × (s ≡ joined first ++ flatMap bytesOf xs ++ (end ∷ []))) ⊎
+      ((f : Refusal) × ListFault idOf bytesOf InRange kinds end first s f)
 
   good-more : (xs : List A) (x : A) → Good xs → length xs < mostJobs → InRange x → All (λ (y : A). ¬ (idOf y ≡ idOf x)) xs → Good (xs ++ (x ∷ []))
   good-more xs x good room ok new =
@@ -99,7 +101,8 @@ module _
   module _
       (xs : List A) (good : Good xs)
       (on :
-      (x : A) (more : List ℕ) → length xs < mostJobs → Good (xs ++ (x ∷ [])) → All Byte more → Told (joined first ++ flatMap bytesOf (xs ++ (x ∷ [])) ++ more)) where
+      (x : A) (more : List ℕ) → length xs < mostJobs → Good (xs ++ (x ∷ [])) → All Byte more →
+      Told (joined first ++ flatMap bytesOf (xs ++ (x ∷ [])) ++ more)) where
     abbrev rs : List (List ℕ)
     rs = first ++ map bytesOf xs
 
@@ -144,7 +147,9 @@ module _
         step (inl u) = faulty (unread (u .1))
         step (inr w) = whole (record-is rest w bytes)
 
-  told-from : (left : ℕ) (xs : List A) (rest : List ℕ) → left + length xs ≡ mostJobs → Good xs → All Byte rest → Told (joined first ++ flatMap bytesOf xs ++ rest)
+  told-from :
+      (left : ℕ) (xs : List A) (rest : List ℕ) → left + length xs ≡ mostJobs → Good xs → All Byte rest →
+      Told (joined first ++ flatMap bytesOf xs ++ rest)
   told-from zero xs rest count good bytes = told-one xs good (λ x more room g b. absurd (omega arith)) rest bytes
   told-from (suc left) xs rest count good bytes =
       told-one xs good (λ x more room g b. told-from left (xs ++ (x ∷ [])) more (omega (arith, length-append xs (x ∷ []))) g b) rest bytes
@@ -215,7 +220,8 @@ module _
       let p = behind rs in
       let size = long s p _ e in
       list-step idOf entryAt (length s) xs p few ∙
-      rw (is-end p (length xs) (b ∷ more) e, lt-leb (length s) (past p 0 .at) (omega arith), behind-more rs (end ∷ []) (omega arith))
+      rw (is-end p (length xs) (b ∷ more) e, lt-leb (length s) (past p 0 .at) (omega arith))
+      (ap (λ (q : Place). refused (After q)) (sym (behind-more rs (end ∷ []) (omega arith))))
 
   pub fault-refused :
       {first : List (List ℕ)} {u : List ℕ} {f : Refusal} → ListFault idOf bytesOf InRange kinds end first u f → u ≡ s →

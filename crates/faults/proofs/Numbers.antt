@@ -14,8 +14,8 @@ use Rattle.table.specs.Refusals.{refusalSays, accepted}
 use Rattle.table.specs.Limits.{longestTable}
 use Rattle.table.specs.Tables.{JobTable, sendingBytes, jobBytes}
 use Rattle.plan.specs.declared.Step.{Step}
-use Rattle.faults.specs.Faults.{joined, behind, Unread, no-byte, not-allowed, cut, Faulty, unread, many, range, twice, after, ListFault, fault, TableFault, in-frame}
-use Rattle.faults.specs.Faults.{deadline, in-row, frameBytes, PlanFault, TableIs, FaultAt}
+use Rattle.faults.specs.Faults.{joined, behind, Unread, no-byte, not-allowed, cut, Faulty, unread, many, range, twice, after, ListFault, fault}
+use Rattle.faults.specs.Faults.{TableFault, in-frame, deadline, in-row, frameBytes, PlanFault, TableIs, FaultAt}
 use Rattle.faults.proofs.Files.{joined-map, behind-more}
 use Rattle.faults.proofs.Tables.{table-flat}
 use Rattle.faults.specs.Checks.{stranger, kept, Misfit, at-step, left, late}

@@ -31,8 +31,8 @@ use Rattle.table.proofs.Records.{rowByte, form-all, frame-form, opened}
 use Rattle.table.proofs.Tables.{both, rowEntry}
 use Rattle.table.proofs.Written.{word-parts, jobs-flat}
 use Rattle.table.proofs.ReadBack.{word, row-open, job-any, job-back, end-back, word-whole, bytes-read}
-use Rattle.faults.specs.Faults.{Byte, joined, behind, frameKinds, rowKinds, Unread, ListFault, fault, GoodList, DeadlineOk, frameBytes, TableFault, in-frame, deadline}
-use Rattle.faults.specs.Faults.{in-row, TableIs}
+use Rattle.faults.specs.Faults.{Byte, joined, behind, frameKinds, rowKinds, Unread, ListFault, fault, GoodList, DeadlineOk, frameBytes}
+use Rattle.faults.specs.Faults.{TableFault, in-frame, deadline, in-row, TableIs}
 use Rattle.faults.proofs.Files.{Whole, unread-or-whole, listed-or-fault, unread-refused, fault-refused, exactly, exactly-one}
 
 -- two bytes are a number's
@@ -212,7 +212,8 @@ table-or-fault s bytes = step (unread-or-whole frameKinds (behind []) s)
 
 -- and is read so
 begins :
-    (D : ℕ) {s : List ℕ} {f : Refusal} → ListFault jobId jobBytes (TimesOk largestTime) rowKinds 0x1F (frameBytes D ∷ []) s f → (more : List ℕ) × (s ≡ frameBytes D ++ more)
+    (D : ℕ) {s : List ℕ} {f : Refusal} → ListFault jobId jobBytes (TimesOk largestTime) rowKinds 0x1F (frameBytes D ∷ []) s f →
+    (more : List ℕ) × (s ≡ frameBytes D ++ more)
 unfolding flatMap
 begins D (fault js rest good y) = (joined (map jobBytes js) ++ rest, refl)
 

@@ -78,7 +78,9 @@ frameBytes D = 0x10 ∷ wordBytes D
 pub data TableFault : List ℕ → Refusal → Type 0 where
   in-frame : {s : List ℕ} {f : Refusal} → Unread frameKinds (behind []) s f → TableFault s f
   deadline : (D : ℕ) (more : List ℕ) → ¬ DeadlineOk D → TableFault (frameBytes D ++ more) (Range (behind []))
-  in-row : (D : ℕ) {s : List ℕ} {f : Refusal} → DeadlineOk D → ListFault jobId jobBytes (TimesOk largestTime) rowKinds 0x1F (frameBytes D ∷ []) s f → TableFault s f
+  in-row :
+      (D : ℕ) {s : List ℕ} {f : Refusal} → DeadlineOk D → ListFault jobId jobBytes (TimesOk largestTime) rowKinds 0x1F (frameBytes D ∷ []) s f →
+      TableFault s f
 
 -- "A plan is 0 to 32 of 0x20 and 0x21 with distinct ids, one 0x2F, nothing after." A step has no times.
 abbrev pub NoTimes : Step → Type 0

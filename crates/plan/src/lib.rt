@@ -2,6 +2,9 @@
 use table::Table;
 use table::kind;
 use table::kind::Meaning;
+use table::kind::PLAN_END;
+use table::kind::RUN_HERE;
+use table::kind::SEND_AWAY;
 use table::kind::StepKind;
 use table::refusal::Place;
 use table::refusal::Refusal;
@@ -161,7 +164,7 @@ pub fn step_at(s: &[u8], k: usize) -> Step
     }
     Step {
         id: s[2 * k + 1],
-        away: s[2 * k] == kind::SEND_AWAY,
+        away: s[2 * k] == SEND_AWAY,
     }
 }
 
@@ -170,11 +173,7 @@ fn put_step(area: &mut [u8], at: usize, step: Step) -> usize
     requires { ⌜ at + 2 ≤ length (now area) ⌝ }
     ensures { λ r. ⌜ Wrote (now (area .entry)) at (stepBytes step) (now (area .exit)) r ⌝ }
 {
-    let kind = if step.away {
-        kind::SEND_AWAY
-    } else {
-        kind::RUN_HERE
-    };
+    let kind = if step.away { SEND_AWAY } else { RUN_HERE };
     let record = [kind, step.id];
     bytes::put(area, at, &record)
 }
@@ -182,7 +181,8 @@ fn put_step(area: &mut [u8], at: usize, step: Step) -> usize
 // Writes the plan at the front of the area, leaves the rest, and returns how many bytes it wrote.
 pub fn write_plan(area: &mut [u8], plan: Plan) -> usize
     requires { ⌜ (plan .count ≤ mostJobs) × (longestPlan ≤ length (now area)) ⌝ }
-    ensures { λ r. ⌜ (r ≡ length (planBytes (stepsOf plan))) × (now (area .exit) ≡ planBytes (stepsOf plan) ++ drop (length (planBytes (stepsOf plan))) (now (area .entry))) ⌝ }
+    ensures { λ r. ⌜ (r ≡ length (planBytes (stepsOf plan)))
+        × (now (area .exit) ≡ planBytes (stepsOf plan) ++ drop (length (planBytes (stepsOf plan))) (now (area .entry))) ⌝ }
 {
     let n = plan.count;
     let mut i = 0;
@@ -191,6 +191,6 @@ pub fn write_plan(area: &mut [u8], plan: Plan) -> usize
         at = put_step(area, at, plan.steps[i]);
         i += 1;
     }
-    let end = [kind::PLAN_END];
+    let end = [PLAN_END];
     bytes::put(area, at, &end)
 }

@@ -160,7 +160,8 @@ module _ {A : Type 0} (idOf : A → ℕ) (entryAt : Place → ℕ → Entry A) (
   -- What holds of no record, of one more where it held before, and then of the end, holds of every accepted list.
   pub listed-all :
       (I : List A → Place → Type 0) (Q : List A → Type 0) →
-      ((xs : List A) (p : Place) (x : A) (next : Place) → I xs p → entryAt p (length xs) ≡ one x next → used (map idOf xs) (idOf x) ≡ false → I (xs ++ (x ∷ [])) next) →
+      ((xs : List A) (p : Place) (x : A) (next : Place) → I xs p → entryAt p (length xs) ≡ one x next → used (map idOf xs) (idOf x) ≡ false →
+      I (xs ++ (x ∷ [])) next) →
       ((xs : List A) (p next : Place) → I xs p → entryAt p (length xs) ≡ last next → size ≤ next .at → Q xs) →
       (left : ℕ) (before : List A) (p : Place) → I before p → (xs : List A) → listFrom idOf entryAt size left before p ≡ accepted xs → Q xs
   unfolding listFrom
@@ -228,12 +229,15 @@ module _ {A : Type 0} (idOf : A → ℕ) (s : List ℕ) (entryAt : Place → ℕ
       (endBytes : List ℕ) →
       ((p : Place) (n : ℕ) (x : A) (next : Place) → entryAt p n ≡ one x next → drop (p .at) s ≡ bytesOf x ++ drop (next .at) s) →
       ((p : Place) (n : ℕ) (next : Place) → entryAt p n ≡ last next → drop (p .at) s ≡ endBytes ++ drop (next .at) s) →
-      (first : Place) (xs : List A) → listFrom idOf entryAt (length s) (suc mostJobs) [] first ≡ accepted xs → drop (first .at) s ≡ flatMap bytesOf xs ++ endBytes
+      (first : Place) (xs : List A) → listFrom idOf entryAt (length s) (suc mostJobs) [] first ≡ accepted xs →
+      drop (first .at) s ≡ flatMap bytesOf xs ++ endBytes
   unfolding flatMap
   listed-bytes endBytes one-bytes end-bytes first =
       listed-all idOf entryAt (length s)
-      (λ (xs : List A) (p : Place). drop (first .at) s ≡ flatMap bytesOf xs ++ drop (p .at) s) (λ (xs : List A). drop (first .at) s ≡ flatMap bytesOf xs ++ endBytes)
-      (λ xs p x next i a u. i ∙ (ap (λ (l : List ℕ). flatMap bytesOf xs ++ l) (one-bytes p (length xs) x next a) ∙ sym (flat-more bytesOf xs x (drop (next .at) s))))
+      (λ (xs : List A) (p : Place). drop (first .at) s ≡ flatMap bytesOf xs ++ drop (p .at) s)
+      (λ (xs : List A). drop (first .at) s ≡ flatMap bytesOf xs ++ endBytes)
+      (λ xs p x next i a u.
+      i ∙ (ap (λ (l : List ℕ). flatMap bytesOf xs ++ l) (one-bytes p (length xs) x next a) ∙ sym (flat-more bytesOf xs x (drop (next .at) s))))
       (λ xs p next i a h. i ∙ ap (λ (l : List ℕ). flatMap bytesOf xs ++ l)
       (end-bytes p (length xs) next a ∙ rw (drop-of-length-le s {i = next .at} h) (append-nil endBytes)))
       (suc mostJobs) [] first refl

@@ -1,4 +1,4 @@
--- Laws of the tables: what the records of a table tell once they are read (`frame-all`, `RowIs`), and the table as `jobs_from` holds it:
+-- Laws of the tables: what the records of a table tell once they are read (`frame-all`, `RowIs`), and the table as `table_from` holds it:
 -- one more job, and the end. What follows of a list of records is in proofs/Listed.antt. Assumes nothing.
 use Prim.Native.Nat.{ℕ, _+_, _≤_, _<_}
 use mathlib.Core.Path.{_≡_, refl, sym, ap, subst, _∙_}
@@ -21,6 +21,7 @@ use Rattle.table.specs.declared.FrameRead.{FrameRead}
 use Rattle.table.specs.declared.FrameRead.the-variants.{FrameIs, FrameRefused}
 use Rattle.table.specs.declared.JobRead.{JobRead}
 use Rattle.table.specs.declared.JobRead.the-variants.{JobRefused}
+use Rattle.table.specs.declared.TableRead.{TableRead}
 use Rattle.table.specs.declared.TableVerdict.{TableVerdict}
 use Rattle.table.specs.declared.TableVerdict.the-variants.{Whole, Refused}
 use Rattle.table.specs.Limits.{mostJobs, largestTime}
@@ -28,7 +29,7 @@ use Rattle.table.specs.Refusals.{past, Outcome, accepted, refused}
 use Rattle.table.specs.Kinds.{frameKind, hereKind, eitherKind, tableEnd}
 use Rattle.table.specs.Records.{wordAt, frameOnly, rowOnly, Entry, one, last, bad}
 use Rattle.table.specs.Tables.{timeOk, deadlineAt, frameAt, hereAt, eitherAt, rowBody, jobAt, jobEntry, withDeadline, tableOf, tableRead, emptyTable}
-use Rattle.table.specs.Tables.{endVerdict, isWhole}
+use Rattle.table.specs.Tables.{JobTable, endVerdict, isWhole}
 use Rattle.table.proofs.Records.{rowByte, rowLength, cond-all, frame-kind, row-kind, is-frame, is-row, judged-all}
 use Rattle.table.proofs.Listed.{padded-more}
 
@@ -112,39 +113,31 @@ pub table-more :
     record { deadline = t .deadline; count = t .count + 1; jobs = set (t .jobs) (t .count) j } ≡ tableOf D (js ++ (j ∷ []))
 table-more t D js j held room = rw (held, padded-more js j noJob mostJobs room, length-append js (j ∷ []))
 
--- How the reader's loop ends: js is what it has read, and o what the records come to.
+-- How the reader ends, where the file comes to o: its verdict, and the table that it holds then.
+pub record Judged (o : Outcome JobTable) (v : TableVerdict) (t : Table) : Type 0 where
+  pub told : v ≡ tableRead o .verdict
+  pub held : isWhole v ≡ true → t ≡ tableRead o .table
 
-abbrev verdictOf : Outcome (List Job) → TableVerdict
-verdictOf (accepted js) = Whole
-verdictOf (refused f) = Refused f
-
-pub record Judged (o : Outcome (List Job)) (js : List Job) (v : TableVerdict) : Type 0 where
-  pub told : v ≡ verdictOf o
-  pub read : isWhole v ≡ true → o ≡ accepted js
-
-pub judged-refused : {o : Outcome (List Job)} {js : List Job} {v : TableVerdict} (f : Refusal) → v ≡ Refused f → refused f ≡ o → Judged o js v
-judged-refused f e r = record { told = e ∙ ap verdictOf r; read = λ w. clash (cc (ap isWhole e)) }
+pub judged-refused : {o : Outcome JobTable} {v : TableVerdict} {t : Table} (f : Refusal) → v ≡ Refused f → refused f ≡ o → Judged o v t
+judged-refused f e r = record { told = e ∙ ap (λ (o : Outcome JobTable). tableRead o .verdict) r; held = λ w. clash (cc (ap isWhole e)) }
 
 pub judged-ended :
-    {o : Outcome (List Job)} {js : List Job} {v : TableVerdict} (s : List ℕ) (p : Place) → v ≡ endVerdict s p →
-    cond (leb (length s) (p .at)) (accepted js) (refused (After p)) ≡ o → Judged o js v
+    {o : Outcome (List Job)} {v : TableVerdict} {t : Table} (D : ℕ) (js : List Job) (s : List ℕ) (p : Place) → v ≡ endVerdict s p → t ≡ tableOf D js →
+    cond (leb (length s) (p .at)) (accepted js) (refused (After p)) ≡ o → Judged (withDeadline D o) v t
 unfolding endVerdict
-judged-ended {o} {js} {v} s p = step (leb (length s) (p .at))
+judged-ended {o} {v} {t} D js s p e held = step (leb (length s) (p .at)) e
   where
-    step : (b : Bool) → v ≡ cond b Whole (Refused (After p)) → cond b (accepted js) (refused (After p)) ≡ o → Judged o js v
-    step true e r = record { told = e ∙ ap verdictOf r; read = λ w. sym r }
-    step false e r = judged-refused (After p) e r
+    step : (b : Bool) → v ≡ cond b Whole (Refused (After p)) → cond b (accepted js) (refused (After p)) ≡ o → Judged (withDeadline D o) v t
+    step true e r =
+        let read = ap (λ (o : Outcome (List Job)). tableRead (withDeadline D o)) r in
+        record { told = e ∙ ap (λ (x : TableRead). x .verdict) read; held = λ w. held ∙ ap (λ (x : TableRead). x .table) read }
+    step false e r = judged-refused (After p) e (ap (withDeadline D) r)
 
 -- what is answered then: the table that was read, or the empty one
-pub answered-whole : (D : ℕ) (o : Outcome (List Job)) (js : List Job) (v : TableVerdict) (t : Table) → Judged o js v → isWhole v ≡ true → t ≡ tableOf D js
-    → record { verdict = v; table = t } ≡ tableRead (withDeadline D o)
-answered-whole D o js v t j w held = rw (j .read w, held) (whole v w)
-  where
-    whole : (v : TableVerdict) → isWhole v ≡ true → record { verdict = v; table = tableOf D js } ≡ tableRead (withDeadline D (accepted js))
-    whole Whole w = refl
-    whole (Refused f) w = clash (cc)
+pub answered-whole : {o : Outcome JobTable} {v : TableVerdict} {t : Table} → Judged o v t → isWhole v ≡ true → record { verdict = v; table = t } ≡ tableRead o
+answered-whole j w = let held = j .held w in λ i. record { verdict = j .told i; table = held i }
 
-pub answered-refused : (D : ℕ) (o : Outcome (List Job)) (js : List Job) (v : TableVerdict) → Judged o js v → isWhole v ≡ false
-    → record { verdict = v; table = emptyTable } ≡ tableRead (withDeadline D o)
-answered-refused D (accepted ks) js v j w = clash (cc (j .told))
-answered-refused D (refused f) js v j w = rw (j .told)
+pub answered-refused :
+    (o : Outcome JobTable) {v : TableVerdict} {t : Table} → Judged o v t → isWhole v ≡ false → record { verdict = v; table = emptyTable } ≡ tableRead o
+answered-refused (accepted u) j w = clash (cc (j .told))
+answered-refused (refused f) j w = rw (j .told)

@@ -12,9 +12,8 @@ ghost use mathlib.Core.Path.{_≡_};
 ghost use Prim.Native.Nat.{_+_, _<_, _≤_};
 ghost use lib.ListN.{length};
 ghost use Rattle.table.specs.Limits.{mostJobs, largestTime, longestTable, longestPlan};
-ghost use Rattle.table.specs.Refusals.{refused};
 ghost use Rattle.table.specs.Records.{wordAt};
-ghost use Rattle.table.specs.Tables.{frameAt, hereJob, eitherJob, jobAt, jobsRead, withDeadline, readTable, emptyTable, tableRead, endVerdict, isWhole};
+ghost use Rattle.table.specs.Tables.{frameAt, hereJob, eitherJob, jobAt, afterFrame, readTable, emptyTable, tableRead, endVerdict, isWhole};
 
 pub struct Table {
     pub deadline: u16,
@@ -221,16 +220,6 @@ fn job_at(s: &[u8], p: Place, count: usize) -> JobRead
     }
 }
 
-fn table_refused(f: Refusal) -> TableRead
-    ensures { λ r. ⌜ r ≡ tableRead (refused f) ⌝ }
-{
-    let table = Table::empty();
-    TableRead {
-        verdict: TableVerdict::Refused(f),
-        table,
-    }
-}
-
 // Nothing may stand after the end record.
 fn ended_at(s: &[u8], p: Place) -> TableVerdict
     ensures { λ r. ⌜ r ≡ endVerdict (now (s .entry)) p ⌝ }
@@ -251,32 +240,40 @@ fn is_whole(verdict: TableVerdict) -> bool
     }
 }
 
-// The records from a place on; `seen` tells the ids that stand before. There is one way out, so that the table is made where it is answered.
-fn jobs_from(s: &[u8], mut p: Place, deadline: u16) -> TableRead
-    ensures { λ r. ⌜ r ≡ tableRead (withDeadline deadline (jobsRead (now (s .entry)) p)) ⌝ }
+// The jobs behind a frame record; `seen` tells the ids that stand before. A refusal clears the table in place, and there is one way out: a second table,
+// made in another branch, would cost a copy of the whole table, field by field.
+fn table_from(s: &[u8], first: FrameRead) -> TableRead
+    ensures { λ r. ⌜ r ≡ tableRead (afterFrame (now (s .entry)) first) ⌝ }
 {
-    let mut t = Table::empty();
-    t.deadline = deadline;
+    let nothing = Table::empty();
+    let mut t = nothing;
     let mut seen = [false; 256];
-    let verdict = loop {
-        match job_at(s, p, t.count) {
-            JobRead::JobIs(j, next) => {
-                let id = j.id as usize;
-                if seen[id] {
-                    break TableVerdict::Refused(Refusal::Twice(p));
+    let verdict = match first {
+        FrameRead::FrameRefused(f) => TableVerdict::Refused(f),
+        FrameRead::FrameIs(deadline, next) => {
+            t.deadline = deadline;
+            let mut p = next;
+            loop {
+                match job_at(s, p, t.count) {
+                    JobRead::JobIs(j, after) => {
+                        let id = j.id as usize;
+                        if seen[id] {
+                            break TableVerdict::Refused(Refusal::Twice(p));
+                        }
+                        seen[id] = true;
+                        let n = t.count;
+                        t.jobs[n] = j;
+                        t.count = n + 1;
+                        p = after;
+                    }
+                    JobRead::JobsEnd(after) => break ended_at(s, after),
+                    JobRead::JobRefused(f) => break TableVerdict::Refused(f),
                 }
-                seen[id] = true;
-                let n = t.count;
-                t.jobs[n] = j;
-                t.count = n + 1;
-                p = next;
             }
-            JobRead::JobsEnd(next) => break ended_at(s, next),
-            JobRead::JobRefused(f) => break TableVerdict::Refused(f),
         }
     };
     if !is_whole(verdict) {
-        t = Table::empty();
+        t = nothing;
     }
     TableRead { verdict, table: t }
 }
@@ -284,8 +281,5 @@ fn jobs_from(s: &[u8], mut p: Place, deadline: u16) -> TableRead
 pub fn read_table(s: &[u8]) -> TableRead
     ensures { λ r. ⌜ r ≡ tableRead (readTable (now (s .entry))) ⌝ }
 {
-    match frame_at(s, Place::start()) {
-        FrameRead::FrameIs(d, next) => jobs_from(s, next, d),
-        FrameRead::FrameRefused(f) => table_refused(f),
-    }
+    table_from(s, frame_at(s, Place::start()))
 }

@@ -55,7 +55,8 @@ unfolding readPlan
 returns c =
     let told = c .before .enum-told .given .1 in
     ap PlanRefused (c .refusal-of .ensures ∙ ap refusalOf told) ∙
-    ap planRead (so-far-refused _ _ _ (c .before .before .before .before .loop .inv .so) (ap stepEntry (sym (c .before .before .before .record-at .ensures) ∙ told)))
+    ap planRead
+    (so-far-refused _ _ _ (c .before .before .before .before .loop .inv .so) (ap stepEntry (sym (c .before .before .before .record-at .ensures) ∙ told)))
 
 enum-known-record : tie.Need-enum-known-record Inv-loop μ-loop
 enum-known-record c = search needs
@@ -71,7 +72,8 @@ listed :
     (c : tie.After-struct-known Inv-loop μ-loop) →
     let l = c .before .before .before .before .before .before .before .before .loop in
     let read = c .before .before .«record» .given .0 in
-    planEntry (now (c .before .before .before .before .before .before .before .before .before .before .before .args .s)) (l .p) (l .count) ≡ one (read .0) (read .1 .0)
+    let begin = c .before .before .before .before .before .before .before .before .before .before .before in
+    planEntry (now (begin .args .s)) (l .p) (l .count) ≡ one (read .0) (read .1 .0)
 listed c =
     ap stepEntry
     (sym (c .before .before .before .before .before .before .before .record-at .ensures) ∙
@@ -79,7 +81,9 @@ listed c =
 
 returns-2 : tie.Need-returns-2 Inv-loop μ-loop
 unfolding readPlan
-returns-2 c = ap planRead (so-far-twice _ _ _ (c .before .before .before .before .before .before .before .before .before .loop .inv .so) (listed (c .before)) (omega arith) (c .if1 .taken))
+returns-2 c =
+    let l = c .before .before .before .before .before .before .before .before .before .loop in
+    ap planRead (so-far-twice _ _ _ (l .inv .so) (listed (c .before)) (omega arith) (c .if1 .taken))
 
 array-write-seen : tie.Need-array-write-seen Inv-loop μ-loop
 array-write-seen c = search needs

@@ -66,7 +66,8 @@ loop-again c =
       within = search needs;
       reached = omega (arith, wrote .place);
       size = omega (arith, c .before .before .put-step .kept .0);
-      rest = rw (wrote .area, wrote .place) (sym (written-append (l .area) (l .at) _ _ (omega arith)) ∙ (ap (written (l .area) (l .at)) (sym more) ∙ l .inv .rest));
+      rest = rw (wrote .area, wrote .place)
+          (sym (written-append (l .area) (l .at) _ _ (omega arith)) ∙ (ap (written (l .area) (l .at)) (sym more) ∙ l .inv .rest));
     }
 
 slice-aggregate-put : tie.Need-slice-aggregate-put Inv-loop μ-loop
@@ -86,7 +87,8 @@ returns c =
     let size = counted start in
     let wrote = c .before .before .put .ensures in (
       omega (arith, wrote .place, plan-length xs),
-      wrote .area ∙ (ap (written (l .area) (l .at)) (sym (bytes-done xs (l .i) (omega arith))) ∙ (l .inv .rest ∙ written-front (now (start .args .area)) (planBytes xs))),
+      wrote .area ∙
+          (ap (written (l .area) (l .at)) (sym (bytes-done xs (l .i) (omega arith))) ∙ (l .inv .rest ∙ written-front (now (start .args .area)) (planBytes xs))),
     )
 
 pub write-plan-spec : {M : Type 1} → statement M

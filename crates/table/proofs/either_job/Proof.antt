@@ -26,10 +26,21 @@ returns : tie.Need-returns
 returns c = simp (← c .before .before .before .word-at .ensures, lt-leb _ _ (c .if1 .taken))
 
 returns-2 : tie.Need-returns-2
-returns-2 c = simp (← c .before .before .before .before .word-at .ensures, ← c .before .before .before .word-at2 .ensures, le-leb _ _ (c .before .if1 .left), lt-leb _ _ (c .if2 .taken))
+returns-2 c =
+    let w = c .before .before in
+    simp (← w .before .before .word-at .ensures, ← w .before .word-at2 .ensures, le-leb _ _ (c .before .if1 .left), lt-leb _ _ (c .if2 .taken))
 
 returns-3 : tie.Need-returns-3
-returns-3 c = simp (← c .before .before .before .before .before .word-at .ensures, ← c .before .before .before .before .word-at2 .ensures, ← c .before .before .before .word-at3 .ensures, le-leb _ _ (c .before .before .if1 .left), le-leb _ _ (c .before .if2 .left), lt-leb _ _ (c .if3 .taken))
+returns-3 c =
+    let w = c .before .before .before in
+    simp (
+      ← w .before .before .word-at .ensures,
+      ← w .before .word-at2 .ensures,
+      ← w .word-at3 .ensures,
+      le-leb _ _ (c .before .before .if1 .left),
+      le-leb _ _ (c .before .if2 .left),
+      lt-leb _ _ (c .if3 .taken),
+    )
 
 add-t8 : tie.Need-add-t8
 add-t8 c = search needs
@@ -38,7 +49,16 @@ shared-slice-read-t14 : tie.Need-shared-slice-read-t14
 shared-slice-read-t14 c = search needs
 
 returns-4 : tie.Need-returns-4
-returns-4 c = simp (← c .before .before .before .before .before .before .word-at .ensures, ← c .before .before .before .before .before .word-at2 .ensures, ← c .before .before .before .before .word-at3 .ensures, le-leb _ _ (c .before .before .before .if1 .left), le-leb _ _ (c .before .before .if2 .left), le-leb _ _ (c .before .if3 .left))
+returns-4 c =
+    let w = c .before .before .before .before in
+    simp (
+      ← w .before .before .word-at .ensures,
+      ← w .before .word-at2 .ensures,
+      ← w .word-at3 .ensures,
+      le-leb _ _ (c .before .before .before .if1 .left),
+      le-leb _ _ (c .before .before .if2 .left),
+      le-leb _ _ (c .before .if3 .left),
+    )
 
 pub either-job-spec : {M : Type 1} → statement M
 either-job-spec =

@@ -32,7 +32,8 @@ unfolding frameAt
 returns-2 c =
     sym
     (not-allowed _ _ _ _ _ (c .before .form-of .ensures) (c .before .before .before .if1 .left)
-    (not-frame (c .before .form-of .result .meaning) (λ e. ⊎-elim (λ x. omega arith) (⊎-elim (λ x. omega arith) (λ x. omega arith)) (rw e at (c .match .keys2)))))
+    (not-frame (c .before .form-of .result .meaning)
+    (λ e. ⊎-elim (λ x. omega arith) (⊎-elim (λ x. omega arith) (λ x. omega arith)) (rw e at (c .match .keys2)))))
 
 add-if2 : tie.Need-add-if2
 add-if2 c = search needs

@@ -33,7 +33,8 @@ unfolding jobAt
 returns-2 c =
     sym
     (not-allowed _ _ _ _ _ (c .before .form-of .ensures) (c .before .before .before .if1 .left)
-    (not-row (c .before .form-of .result .meaning) (λ k e. ⊎-elim (λ x. omega arith) (⊎-elim (λ x. omega arith) (λ x. omega arith)) (rw e at (c .match .keys2)))))
+    (not-row (c .before .form-of .result .meaning)
+    (λ k e. ⊎-elim (λ x. omega arith) (⊎-elim (λ x. omega arith) (λ x. omega arith)) (rw e at (c .match .keys2)))))
 
 add-if2 : tie.Need-add-if2
 add-if2 c = search needs
@@ -94,11 +95,14 @@ returns-6 c = sym (opens (c .before .before) ∙ simp (c .enum-told .given .1))
 
 returns-7 : tie.Need-returns-7
 returns-7 c =
-    sym (opens (c .before .before .before .before) ∙ simp (c .before .before .enum-told2 .given .1, lt-ltb _ _ (c .before .if3 .left)) (sym (c .here-job .ensures)))
+    sym
+    (opens (c .before .before .before .before) ∙ simp (c .before .before .enum-told2 .given .1, lt-ltb _ _ (c .before .if3 .left)) (sym (c .here-job .ensures)))
 
 returns-8 : tie.Need-returns-8
 returns-8 c =
-    sym (opens (c .before .before .before .before) ∙ simp (c .before .before .enum-told3 .given .1, lt-ltb _ _ (c .before .if4 .left)) (sym (c .either-job .ensures)))
+    sym
+    (opens (c .before .before .before .before) ∙
+    simp (c .before .before .enum-told3 .given .1, lt-ltb _ _ (c .before .if4 .left)) (sym (c .either-job .ensures)))
 
 pub job-at-spec : {M : Type 1} → statement M
 job-at-spec =

@@ -1,5 +1,5 @@
--- `table::read_table` meets its contract: the frame record leads to the jobs or to its refusal. Assumes nothing.
-use mathlib.Core.Path.{sym, ap, _∙_}
+-- `table::read_table` meets its contract: the first record stands at the start, and leads to the jobs or to its refusal. Assumes nothing.
+use mathlib.Core.Path.{ap, _∙_}
 use denote.Ref.{now}
 use borrow.Author.Needs.{needs}
 use Rattle.table.specs.declared.FrameRead.{FrameRead}
@@ -13,41 +13,15 @@ start-requires c κs = search needs
 frame-at-requires : tie.Need-frame-at-requires
 frame-at-requires c κs = search needs
 
-enum-known-d : tie.Need-enum-known-d
-enum-known-d c = search needs
-
-jobs-from-requires : tie.Need-jobs-from-requires
-jobs-from-requires c κs = search needs
-
-enum-known-f : tie.Need-enum-known-f
-enum-known-f c = search needs
-
-table-refused-requires : tie.Need-table-refused-requires
-table-refused-requires c κs = search needs
+table-from-requires : tie.Need-table-from-requires
+table-from-requires c κs = search needs
 
 returns : tie.Need-returns
 unfolding readTable
 returns c =
-    let s = now (c .before .before .before .before .before .before .before .args .s) in
-    let first = c .before .before .before .before .frame-at .ensures ∙ ap (frameAt s) (c .before .before .before .before .before .start .ensures) in
-    c .jobs-from .ensures ∙ ap (λ (a : FrameRead). tableRead (afterFrame s a)) (sym (c .before .before .d .given .1) ∙ first)
-
-returns-2 : tie.Need-returns-2
-unfolding readTable
-returns-2 c =
-    let s = now (c .before .before .before .before .before .before .before .args .s) in
-    let first = c .before .before .before .before .frame-at .ensures ∙ ap (frameAt s) (c .before .before .before .before .before .start .ensures) in
-    c .table-refused .ensures ∙ ap (λ (a : FrameRead). tableRead (afterFrame s a)) (sym (c .before .before .f .given .1) ∙ first)
+    let s = now (c .before .before .before .before .args .s) in
+    let first = c .before .frame-at .ensures ∙ ap (frameAt s) (c .before .before .start .ensures) in
+    c .table-from .ensures ∙ ap (λ (a : FrameRead). tableRead (afterFrame s a)) first
 
 pub read-table-spec : {M : Type 1} → statement M
-read-table-spec =
-    tie.close
-    (tie.spec
-    start-requires
-    frame-at-requires
-    enum-known-d
-    jobs-from-requires
-    enum-known-f
-    table-refused-requires
-    returns
-    returns-2)
+read-table-spec = tie.close (tie.spec start-requires frame-at-requires table-from-requires returns)

@@ -1,4 +1,4 @@
--- `table::kind::form_of` meets its contract: each arm of the match is one line of `formOf`, and the ranges are the rest. Assumes nothing.
+-- `table::kind::form_of` meets its contract: each arm of the match is one line of `formOf`, and the last one is the rest. Assumes nothing.
 use mathlib.Core.Path.{sym, ap}
 use borrow.Author.Tests.{ne-eqb}
 use Rattle.table.specs.Records.{formOf}
@@ -37,7 +37,15 @@ returns-8 : tie.Need-returns-8
 unfolding formOf
 returns-8 c =
     let r = c .match .rest in
-    simp (ne-eqb _ _ (r .1), ne-eqb _ _ (r .0 .1), ne-eqb _ _ (r .0 .0 .1), ne-eqb _ _ (r .0 .0 .0 .1), ne-eqb _ _ (r .0 .0 .0 .0 .1), ne-eqb _ _ (r .0 .0 .0 .0 .0 .1), ne-eqb _ _ (r .0 .0 .0 .0 .0 .0 .1))
+    simp (
+      ne-eqb _ _ (r .1),
+      ne-eqb _ _ (r .0 .1),
+      ne-eqb _ _ (r .0 .0 .1),
+      ne-eqb _ _ (r .0 .0 .0 .1),
+      ne-eqb _ _ (r .0 .0 .0 .0 .1),
+      ne-eqb _ _ (r .0 .0 .0 .0 .0 .1),
+      ne-eqb _ _ (r .0 .0 .0 .0 .0 .0 .1),
+    )
 
 pub form-of-spec : {M : Type 1} → statement M
 form-of-spec =

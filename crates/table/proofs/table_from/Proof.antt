@@ -1,8 +1,8 @@
--- `table::jobs_from` meets its contract. The invariant is `SoFar` of proofs/Listed.antt: the jobs read so far, and that what is still to
+-- `table::table_from` meets its contract. The invariant is `SoFar` of proofs/Listed.antt: the jobs read so far, and that what is still to
 -- do gives the same as the whole. Each way out of a turn is one of its laws; the measure is how many records may still come. Assumes nothing.
 use Prim.Native.Nat.{ℕ, suc, _-_, _<_}
 use native.Mathlib.Omega.{arith}
-use mathlib.Core.Path.{_≡_, sym, ap, _∙_}
+use mathlib.Core.Path.{_≡_, sym, ap, subst, _∙_}
 use mathlib.Core.Bool.{Bool}
 use mathlib.Core.Logic.{inl, inr}
 use mathlib.Core.List.{List, [], _∷_, _++_}
@@ -12,33 +12,40 @@ use borrow.Author.Needs.{needs}
 use borrow.Author.Tests.{not-true, not-false}
 use Rattle.model.specs.declared.Job.{Job}
 use Rattle.table.specs.declared.refusal.Place.{Place}
+use Rattle.table.specs.declared.FrameRead.{FrameRead}
 use Rattle.table.specs.declared.Table.{Table}
 use Rattle.table.specs.Limits.{mostJobs}
 use Rattle.table.specs.Records.{one}
-use Rattle.table.specs.Tables.{jobId, jobEntry, jobsRead, tableOf}
+use Rattle.table.specs.Tables.{jobId, jobEntry, jobsRead, withDeadline, afterFrame, tableOf}
 use Rattle.table.proofs.Listed.{SoFar, so-far-begin, so-far-refused, so-far-ended, so-far-twice, so-far-more}
 use Rattle.table.proofs.Tables.{rowEntry, row-is, row-few, table-more, Judged, judged-refused, judged-ended, answered-whole, answered-refused}
-use Rattle.table.proofs.jobs_from.Statement.{statement}
-use Rattle.table.proofs.jobs_from.Tie as tie
+use Rattle.table.proofs.table_from.Statement.{statement}
+use Rattle.table.proofs.table_from.Tie as tie
 
--- what `jobs_from` keeps: the jobs read so far, held as a table
+-- what the loop keeps: the jobs read so far, held as a table
 record Kept (s : List ℕ) (first : Place) (D : ℕ) (t : Table) (seen : List Bool) (p : Place) : Type 0 where
   js : List Job
   held : t ≡ tableOf D js
   so : SoFar jobId (rowEntry s) (length s) first js (t .count) seen p
 
 abbrev Inv-loop : tie.InvT-loop
-Inv-loop s p₀ deadline t₀ seen₀ p t seen = Kept s p₀ deadline t seen p
+Inv-loop s nothing t₀ seen₀ deadline p₀ t seen p = Kept s p₀ deadline t seen p
 
 abbrev μ-loop : tie.MeasureT-loop
-μ-loop s p₀ deadline t₀ seen₀ p t seen = suc mostJobs - t .count
+μ-loop s nothing t₀ seen₀ deadline p₀ t seen p = suc mostJobs - t .count
 
 empty-requires : tie.Need-empty-requires Inv-loop μ-loop
 empty-requires c κs = search needs
 
+enum-known-first : tie.Need-enum-known-first Inv-loop μ-loop
+enum-known-first c = search needs
+
+enum-known-first-2 : tie.Need-enum-known-first-2 Inv-loop μ-loop
+enum-known-first-2 c = search needs
+
 loop-holds : tie.Need-loop-holds Inv-loop μ-loop
 loop-holds c =
-    let none = c .empty .ensures in
+    let none = c .before .before .before .empty .ensures in
     record { js = []; held = rw none; so = rw none (so-far-begin jobId _ _ _) }
 
 job-at-requires : tie.Need-job-at-requires Inv-loop μ-loop
@@ -58,7 +65,8 @@ listed :
     (c : tie.After-struct-known Inv-loop μ-loop) →
     let l = c .before .before .before .before .before .loop in
     let read = c .before .before .j .given .0 in
-    rowEntry (now (c .before .before .before .before .before .before .before .before .args .s)) (l .p) (l .t .count) ≡ one (read .0) (read .1 .0)
+    let start = c .before .before .before .before .before .before .before .before .before .before .before in
+    rowEntry (now (start .args .s)) (l .p) (l .t .count) ≡ one (read .0) (read .1 .0)
 listed c = ap jobEntry (sym (c .before .before .before .before .job-at .ensures) ∙ c .before .before .j .given .1)
 
 array-write-seen : tie.Need-array-write-seen Inv-loop μ-loop
@@ -91,8 +99,8 @@ loop-again c =
       so = so-far-more _ _ _ (inv .so) (listed (c .before)) (omega arith) (room (c .before)) (c .if1 .left);
     }
 
-enum-known-next : tie.Need-enum-known-next Inv-loop μ-loop
-enum-known-next c = search needs
+enum-known-after : tie.Need-enum-known-after Inv-loop μ-loop
+enum-known-after c = search needs
 
 ended-at-requires : tie.Need-ended-at-requires Inv-loop μ-loop
 ended-at-requires c κs = search needs
@@ -100,42 +108,48 @@ ended-at-requires c κs = search needs
 enum-known-f : tie.Need-enum-known-f Inv-loop μ-loop
 enum-known-f c = search needs
 
--- the loop ends at a record that is refused, at an id that was seen, or at the end record
+-- the frame record is refused; or the loop ends at an id that was seen, at the end record, or at a record that is refused
 judged : (c : tie.At-match-came Inv-loop μ-loop) →
-    let l = c .before .before .loop in
-    Judged (jobsRead (now (c .before .before .before .before .before .args .s)) (c .before .before .before .before .before .args .p)) (l .inv .js) (c .match .verdict)
+    let a = c .before .before .before .args in
+    Judged (afterFrame (now (a .s)) (a .first)) (c .match .verdict) (c .match .t)
 unfolding jobsRead
 judged c =
-    let inv = c .before .before .loop .inv in
+    let s = now (c .before .before .before .args .s) in
     elim (c .match .came) [
-      | inl (match, j, known, struct, if1, e) ↦ judged-refused _ e (so-far-twice _ _ _ (inv .so) (ap jobEntry (sym (c .before .job-at .ensures) ∙ j .given .1)) (omega arith) (if1 .taken))
-      | inr (inl (match, next, known, ended, e)) ↦ judged-ended _ _ (e ∙ ended .ensures) (so-far-ended _ _ _ (inv .so) (ap jobEntry (sym (c .before .job-at .ensures) ∙ next .given .1)))
-      | inr (inr (match, f, known, e)) ↦ judged-refused _ e (so-far-refused _ _ _ (inv .so) (ap jobEntry (sym (c .before .job-at .ensures) ∙ f .given .1)))
+      | inl (match, first, known, t, v) ↦ judged-refused _ v (ap (afterFrame s) (sym (first .given .1)))
+      | inr (inl (match, first, known, loop, read, match2, j, known3, struct, if1, t, v)) ↦
+          subst (λ (a : FrameRead). Judged (afterFrame s a) (c .match .verdict) (c .match .t)) (sym (first .given .1))
+          (judged-refused _ v
+          (ap (withDeadline _) (so-far-twice _ _ _ (loop .inv .so) (ap jobEntry (sym (read .ensures) ∙ j .given .1)) (omega arith) (if1 .taken))))
+      | inr (inr (inl (match, first, known, loop, read, match2, after, known4, ended, t, v))) ↦
+          subst (λ (a : FrameRead). Judged (afterFrame s a) (c .match .verdict) (c .match .t)) (sym (first .given .1))
+          (judged-ended _ (loop .inv .js) s _ (v ∙ ended .ensures) (t ∙ loop .inv .held)
+          (so-far-ended _ _ _ (loop .inv .so) (ap jobEntry (sym (read .ensures) ∙ after .given .1))))
+      | inr (inr (inr (match, first, known, loop, read, match2, f, known5, t, v))) ↦
+          subst (λ (a : FrameRead). Judged (afterFrame s a) (c .match .verdict) (c .match .t)) (sym (first .given .1))
+          (judged-refused _ v (ap (withDeadline _) (so-far-refused _ _ _ (loop .inv .so) (ap jobEntry (sym (read .ensures) ∙ f .given .1)))))
     ]
 
 is-whole-requires : tie.Need-is-whole-requires Inv-loop μ-loop
 is-whole-requires c κs = search needs
 
-empty-requires-2 : tie.Need-empty-requires-2 Inv-loop μ-loop
-empty-requires-2 c κs = search needs
-
 returns : tie.Need-returns Inv-loop μ-loop
 returns c =
-    let refused = sym (c .before .before .is-whole .ensures) ∙ not-true _ (c .before .if2 .taken) in
-    rw (c .empty2 .ensures) (answered-refused _ _ _ _ (judged (c .before .before .before)) refused)
+    let refused = sym (c .before .is-whole .ensures) ∙ not-true _ (c .if2 .taken) in
+    rw (c .before .before .before .empty .ensures) (answered-refused _ (judged (c .before .before)) refused)
 
 returns-2 : tie.Need-returns-2 Inv-loop μ-loop
-returns-2 c =
-    let whole = sym (c .before .is-whole .ensures) ∙ not-false _ (c .if2 .left) in
-    answered-whole _ _ _ _ _ (judged (c .before .before)) whole (c .before .before .before .before .loop .inv .held)
+returns-2 c = answered-whole (judged (c .before .before)) (sym (c .before .is-whole .ensures) ∙ not-false _ (c .if2 .left))
 
-pub jobs-from-spec : {M : Type 1} → statement M
-jobs-from-spec =
+pub table-from-spec : {M : Type 1} → statement M
+table-from-spec =
     tie.close
     (tie.spec
     Inv-loop
     μ-loop
     empty-requires
+    enum-known-first
+    enum-known-first-2
     loop-holds
     job-at-requires
     enum-known-j
@@ -147,10 +161,9 @@ jobs-from-spec =
     add-t
     loop-less
     loop-again
-    enum-known-next
+    enum-known-after
     ended-at-requires
     enum-known-f
     is-whole-requires
-    empty-requires-2
     returns
     returns-2)
