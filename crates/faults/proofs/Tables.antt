@@ -14,6 +14,8 @@ use Rattle.model.specs.declared.Sending.the-variants.{HereOnly, Either}
 use Rattle.model.specs.declared.Job.{Job}
 use Rattle.model.specs.Lists.{All}
 use Rattle.model.proofs.Lists.{clash, member-all}
+use Rattle.bytes.specs.Numbers.{twoBytes}
+use Rattle.bytes.proofs.Numbers.{two-from, two-whole, two-parts}
 use Rattle.table.specs.declared.refusal.Place.{Place}
 use Rattle.table.specs.declared.refusal.Refusal.{Refusal}
 use Rattle.table.specs.declared.refusal.Refusal.the-variants.{Range, Many}
@@ -26,20 +28,20 @@ use Rattle.table.specs.Limits.{mostJobs, largestTime}
 use Rattle.table.specs.Refusals.{start, past, Outcome, accepted, refused}
 use Rattle.table.specs.Records.{formOf, frameOnly, rowOnly, bad}
 use Rattle.table.specs.Tables.{JobTable, TimesOk, timeOk, deadlineAt, frameAt, rowBody, jobAt, jobEntry, jobId, jobsRead, afterFrame, withDeadline, readTable}
-use Rattle.table.specs.Tables.{wordBytes, sendingBytes, jobBytes, tableBytes}
+use Rattle.table.specs.Tables.{sendingBytes, jobBytes, tableBytes}
 use Rattle.table.proofs.Records.{rowByte, form-all, frame-form, opened}
 use Rattle.table.proofs.Tables.{both, rowEntry}
-use Rattle.table.proofs.Written.{word-parts, jobs-flat}
-use Rattle.table.proofs.ReadBack.{word, row-open, job-any, job-back, end-back, word-whole, bytes-read}
+use Rattle.table.proofs.Written.{jobs-flat}
+use Rattle.table.proofs.ReadBack.{row-open, job-any, job-back, end-back, bytes-read}
 use Rattle.faults.specs.Faults.{Byte, joined, behind, frameKinds, rowKinds, Unread, ListFault, fault, GoodList, DeadlineOk, frameBytes}
 use Rattle.faults.specs.Faults.{TableFault, in-frame, deadline, in-row, TableIs}
 use Rattle.faults.proofs.Files.{Whole, unread-or-whole, listed-or-fault, unread-refused, fault-refused, exactly, exactly-one}
 
 -- two bytes are a number's
-word-is : (l : List ℕ) → 2 ≤ length l → All Byte l → (w : ℕ) × (more : List ℕ) × (l ≡ wordBytes w ++ more) × (length l ≡ 2 + length more) × All Byte more
+word-is : (l : List ℕ) → 2 ≤ length l → All Byte l → (w : ℕ) × (more : List ℕ) × (l ≡ twoBytes w ++ more) × (length l ≡ 2 + length more) × All Byte more
 word-is [] h bytes = absurd (omega arith)
 word-is (a ∷ []) h bytes = absurd (omega arith)
-word-is (a ∷ b ∷ more) h bytes = (a + 256 * b, more, ap (λ (l : List ℕ). l ++ more) (sym (word-parts a b (bytes .0))), omega arith, bytes .1 .1)
+word-is (a ∷ b ∷ more) h bytes = (a + 256 * b, more, ap (λ (l : List ℕ). l ++ more) (sym (two-parts a b (bytes .0))), omega arith, bytes .1 .1)
 
 -- a whole record is a job, or the end
 abbrev Row : List ℕ → Type 0
@@ -52,7 +54,7 @@ here-is (id ∷ l) bytes h =
     inl (record { id = id; local = C .0; sending = HereOnly }, C .1, ap (λ (m : List ℕ). 0x11 ∷ id ∷ m) (C .2), C .4)
 
 either-bytes :
-    (id C S I : ℕ) (l m n more : List ℕ) → l ≡ wordBytes C ++ m → m ≡ wordBytes S ++ n → n ≡ wordBytes I ++ more →
+    (id C S I : ℕ) (l m n more : List ℕ) → l ≡ twoBytes C ++ m → m ≡ twoBytes S ++ n → n ≡ twoBytes I ++ more →
     0x12 ∷ id ∷ l ≡ sendingBytes id C (Either S I) ++ more
 either-bytes id C S I l m n more e f g = rw (e, f, g)
 
@@ -157,11 +159,11 @@ module _ (s : List ℕ) (p : Place) (n : ℕ) where
       rowEntry s p n ≡ bad (Range p)
   is-range id C HereOnly more e h out =
       let l = sendingBytes id C HereOnly ++ more in
-      row-open s p l e n HereRow refl (omega arith) ∙ simp (lt-ltb n mostJobs h, word s p l e 2, word-whole C, out)
+      row-open s p l e n HereRow refl (omega arith) ∙ simp (lt-ltb n mostJobs h, two-from s (p .at) l e 2, two-whole C, out)
   is-range id C (Either S I) more e h out =
       let l = sendingBytes id C (Either S I) ++ more in
       row-open s p l e n EitherRow refl (omega arith) ∙
-      simp (lt-ltb n mostJobs h, word s p l e 2, word s p l e 4, word s p l e 6, word-whole C, word-whole S, word-whole I, out)
+      simp (lt-ltb n mostJobs h, two-from s (p .at) l e 2, two-from s (p .at) l e 4, two-from s (p .at) l e 6, two-whole C, two-whole S, two-whole I, out)
 
 -- the places of a table's first record and of the next
 first-place : behind [] ≡ start
@@ -179,7 +181,7 @@ unfolding frameAt
 frame-reads D more =
     let s = frameBytes D ++ more in
     opened FrameRefused (λ (next : Place) (u : Unit {0}). deadlineAt s start next) frameOnly s start (sym frame-form) (omega arith) tt refl (omega arith) ∙
-    simp (word-whole D)
+    simp (two-whole D)
 
 pub table-flat : (D : ℕ) (js : List Job) → tableBytes (record { deadline = D; jobs = js }) ≡ frameBytes D ++ flatMap jobBytes js ++ (0x1F ∷ [])
 unfolding tableBytes

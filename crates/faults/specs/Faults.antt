@@ -6,12 +6,13 @@ use mathlib.Core.Path.{_≡_}
 use mathlib.Core.List.{List, [], _∷_, _++_, map, flatMap, List·Memᴰ}
 use lib.ListN.{length}
 use Rattle.model.specs.Lists.{All, Pairwise}
+use Rattle.bytes.specs.Numbers.{twoBytes}
 use Rattle.table.specs.declared.refusal.Place.{Place}
 use Rattle.table.specs.declared.refusal.Refusal.{Refusal}
 use Rattle.table.specs.declared.refusal.Refusal.the-variants.{Short, Kind, Range, Many, Twice, After}
 use Rattle.table.specs.Limits.{mostJobs, largestTime}
 use Rattle.table.specs.Refusals.{refusalSays, Outcome, accepted, refused}
-use Rattle.table.specs.Tables.{JobTable, TimesOk, GoodTable, jobId, wordBytes, jobBytes, tableBytes}
+use Rattle.table.specs.Tables.{JobTable, TimesOk, GoodTable, jobId, jobBytes, tableBytes}
 use Rattle.plan.specs.declared.Step.{Step}
 use Rattle.plan.specs.Plans.{stepId, stepBytes, planBytes}
 
@@ -72,7 +73,7 @@ abbrev pub DeadlineOk : ℕ → Type 0
 DeadlineOk D = (1 ≤ D) × (D ≤ largestTime)
 
 abbrev pub frameBytes : ℕ → List ℕ
-frameBytes D = 0x10 ∷ wordBytes D
+frameBytes D = 0x10 ∷ twoBytes D
 
 -- "A table is one 0x10 first, 0 to 32 jobs with distinct ids, one 0x1F, nothing after."
 pub data TableFault : List ℕ → Refusal → Type 0 where

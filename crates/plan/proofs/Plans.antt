@@ -18,7 +18,8 @@ use Rattle.table.specs.Refusals.{start, past, accepted}
 use Rattle.table.specs.Kinds.{runHere, sendAway, planEnd}
 use Rattle.table.specs.Records.{form, formOf, stepOnly, one, last}
 use Rattle.table.proofs.Records.{stepByte, stepLength, opened}
-use Rattle.table.proofs.ReadBack.{peek, kind-byte, long}
+use Rattle.bytes.proofs.Numbers.{byte-from}
+use Rattle.table.proofs.ReadBack.{kind-byte, long}
 use Rattle.table.proofs.Listed.{Distinct, listed-good, listed-bytes, listed-back}
 use Rattle.plan.specs.declared.Step.{Step}
 use Rattle.plan.specs.declared.RecordRead.the-variants.{RecordRefused}
@@ -96,8 +97,8 @@ module _ (s : List ℕ) (p : Place) (n : ℕ) where
       go :
           (away : Bool) → drop (p .at) s ≡ cond away sendAway runHere ∷ x .id ∷ rest →
           planEntry s p n ≡ one (record { id = x .id; away = away }) (past p 1)
-      go true b = ap stepEntry (opens AwayStep (x .id ∷ rest) b (omega arith)) ∙ simp (lt-ltb n mostJobs few, peek s p _ b 1)
-      go false b = ap stepEntry (opens HereStep (x .id ∷ rest) b (omega arith)) ∙ simp (lt-ltb n mostJobs few, peek s p _ b 1)
+      go true b = ap stepEntry (opens AwayStep (x .id ∷ rest) b (omega arith)) ∙ simp (lt-ltb n mostJobs few, byte-from s (p .at) _ b 1)
+      go false b = ap stepEntry (opens HereStep (x .id ∷ rest) b (omega arith)) ∙ simp (lt-ltb n mostJobs few, byte-from s (p .at) _ b 1)
 
   pub end-back : (more : List ℕ) → drop (p .at) s ≡ planEnd ∷ more → planEntry s p n ≡ last (past p 0)
   end-back more e = ap stepEntry (opens EndStep more e (omega arith))

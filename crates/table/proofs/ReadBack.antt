@@ -11,6 +11,7 @@ use borrow.Author.Tests.{lt-ltb, le-leb}
 use Rattle.model.specs.declared.Sending.{Sending}
 use Rattle.model.specs.declared.Sending.the-variants.{HereOnly, Either}
 use Rattle.model.specs.declared.Job.{Job}
+use Rattle.bytes.proofs.Numbers.{byte-from, two-from, two-whole}
 use Rattle.table.specs.declared.refusal.Place.{Place}
 use Rattle.table.specs.declared.kind.RowKind.{RowKind}
 use Rattle.table.specs.declared.kind.RowKind.the-variants.{HereRow, EitherRow, EndRow}
@@ -19,7 +20,7 @@ use Rattle.table.specs.declared.JobRead.the-variants.{JobRefused}
 use Rattle.table.specs.Limits.{mostJobs, largestTime}
 use Rattle.table.specs.Refusals.{start, past, accepted}
 use Rattle.table.specs.Kinds.{tableEnd}
-use Rattle.table.specs.Records.{wordAt, formOf, frameOnly, rowOnly, one, last}
+use Rattle.table.specs.Records.{formOf, frameOnly, rowOnly, one, last}
 use Rattle.table.specs.Tables.{JobTable, TimesOk, GoodTable, deadlineAt, frameAt, rowBody, jobAt, jobEntry, jobId, jobsRead, readTable, sendingBytes}
 use Rattle.table.specs.Tables.{jobBytes, tableBytes}
 use Rattle.table.proofs.Records.{rowByte, rowLength, frame-form, row-form, opened}
@@ -29,19 +30,11 @@ use Rattle.table.proofs.Written.{jobs-flat}
 
 -- What the bytes `l` from a place on say of the whole: its bytes and words there, and its length.
 module _ (s : List ℕ) (p : Place) (l : List ℕ) (from : drop (p .at) s ≡ l) where
-  pub peek : (i : ℕ) → getD s (p .at + i) 0 ≡ getD l i 0
-  peek i = sym (getD-drop (p .at) s i 0) ∙ ap (λ (k : List ℕ). getD k i 0) from
-
   pub kind-byte : getD s (p .at) 0 ≡ getD l 0 0
-  kind-byte = rw add-zero at (peek 0)
+  kind-byte = rw add-zero at (byte-from s (p .at) l from 0)
 
   pub long : length s - p .at ≡ length l
   long = sym (length-drop (p .at) s) ∙ ap length from
-
-  pub word : (i : ℕ) → wordAt s (p .at + i) ≡ wordAt l i
-  word i =
-      let next : p .at + i + 1 ≡ p .at + (i + 1) = omega arith in
-      rw (peek i, next, peek (i + 1))
 
   -- a whole row is read
   pub row-open :
@@ -50,10 +43,6 @@ module _ (s : List ℕ) (p : Place) (l : List ℕ) (from : drop (p .at) s ≡ l)
   row-open n k b h =
       ap jobEntry
       (opened JobRefused (rowBody s p n) rowOnly s p (sym (ap formOf (kind-byte ∙ b) ∙ row-form k)) (omega (arith, long)) k refl (omega (arith, long)))
-
--- the two bytes of a number make it again
-pub word-whole : (n : ℕ) → n % 256 + 256 * (n / 256) ≡ n
-word-whole n = omega arith
 
 -- a job's record has bytes
 pub job-any : (j : Job) → 1 ≤ length (jobBytes j)
@@ -71,19 +60,19 @@ pub job-back :
 job-back s p n rest id C HereOnly from ok few =
     let l = sendingBytes id C HereOnly ++ rest in
     row-open s p l from n HereRow refl (omega arith) ∙
-    simp (lt-ltb n mostJobs few, peek s p l from 1, word s p l from 2, word-whole C, le-leb _ _ (ok .local))
+    simp (lt-ltb n mostJobs few, byte-from s (p .at) l from 1, two-from s (p .at) l from 2, two-whole C, le-leb _ _ (ok .local))
 job-back s p n rest id C (Either S I) from ok few =
     let l = sendingBytes id C (Either S I) ++ rest in
     row-open s p l from n EitherRow refl (omega arith) ∙
     simp (
       lt-ltb n mostJobs few,
-      peek s p l from 1,
-      word s p l from 2,
-      word s p l from 4,
-      word s p l from 6,
-      word-whole C,
-      word-whole S,
-      word-whole I,
+      byte-from s (p .at) l from 1,
+      two-from s (p .at) l from 2,
+      two-from s (p .at) l from 4,
+      two-from s (p .at) l from 6,
+      two-whole C,
+      two-whole S,
+      two-whole I,
       le-leb _ _ (ok .local),
       le-leb _ _ (ok .setup),
       le-leb _ _ (ok .back),
@@ -97,7 +86,7 @@ unfolding tableBytes frameAt
 frame-back t good =
     let s = tableBytes t in
     opened FrameRefused (λ (next : Place) (u : Unit {0}). deadlineAt s start next) frameOnly s start (sym frame-form) (omega arith) tt refl (omega arith) ∙
-    simp (word-whole (t .deadline), lt-ltb _ _ (good .low), le-leb _ _ (good .high))
+    simp (two-whole (t .deadline), lt-ltb _ _ (good .low), le-leb _ _ (good .high))
 
 pub bytes-read : (t : JobTable) → GoodTable t → readTable (tableBytes t) ≡ accepted t
 unfolding readTable jobsRead tableBytes

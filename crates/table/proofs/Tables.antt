@@ -11,6 +11,7 @@ use borrow.Author.Tests.{ltb-true, leb-true}
 use Rattle.model.specs.declared.Job.{Job}
 use Rattle.model.specs.Positions.{noJob}
 use Rattle.model.proofs.Lists.{clash}
+use Rattle.bytes.specs.Numbers.{twoAt}
 use Rattle.table.specs.declared.refusal.Place.{Place}
 use Rattle.table.specs.declared.refusal.Refusal.{Refusal}
 use Rattle.table.specs.declared.refusal.Refusal.the-variants.{After}
@@ -27,7 +28,7 @@ use Rattle.table.specs.declared.TableVerdict.the-variants.{Whole, Refuse
 use Rattle.table.specs.Limits.{mostJobs, largestTime}
 use Rattle.table.specs.Refusals.{past, Outcome, accepted, refused}
 use Rattle.table.specs.Kinds.{frameKind, hereKind, eitherKind, tableEnd}
-use Rattle.table.specs.Records.{wordAt, frameOnly, rowOnly, Entry, one, last, bad}
+use Rattle.table.specs.Records.{frameOnly, rowOnly, Entry, one, last, bad}
 use Rattle.table.specs.Tables.{timeOk, deadlineAt, frameAt, hereAt, eitherAt, rowBody, jobAt, jobEntry, withDeadline, tableOf, tableRead, emptyTable}
 use Rattle.table.specs.Tables.{JobTable, endVerdict, isWhole}
 use Rattle.table.proofs.Records.{rowByte, rowLength, cond-all, frame-kind, row-kind, is-frame, is-row, judged-all}
@@ -40,12 +41,12 @@ both false b e = (cc, cc)
 -- what holds of every refusal and of a whole frame record holds of the first record
 pub frame-all :
     (s : List ℕ) (p : Place) (P : FrameRead → Type 0) → ((f : Refusal) → P (FrameRefused f)) →
-    (getD s (p .at) 0 ≡ frameKind → past p 2 .at ≤ length s → 1 ≤ wordAt s (p .at + 1) → wordAt s (p .at + 1) ≤ largestTime →
-    P (FrameIs (wordAt s (p .at + 1)) (past p 2))) →
+    (getD s (p .at) 0 ≡ frameKind → past p 2 .at ≤ length s → 1 ≤ twoAt s (p .at + 1) → twoAt s (p .at + 1) ≤ largestTime →
+    P (FrameIs (twoAt s (p .at + 1)) (past p 2))) →
     P (frameAt s p)
 unfolding frameAt
 frame-all s p P out frame =
-    let D = wordAt s (p .at + 1) in
+    let D = twoAt s (p .at + 1) in
     judged-all FrameRefused (λ (next : Place) (u : Unit {0}). deadlineAt s p next) frameOnly s p P out
     (λ u there may fits.
     let f = frame-kind (getD s (p .at) 0) (is-frame _ u may) in
@@ -64,10 +65,10 @@ rowEntry s p n = jobEntry (jobAt s p n)
 pub data RowIs (s : List ℕ) (p : Place) (n : ℕ) : Entry Job → Type 0 where
   row-here :
       getD s (p .at) 0 ≡ hereKind → past p 3 .at ≤ length s → n < mostJobs →
-      wordAt s (p .at + 2) ≤ largestTime → RowIs s p n (one (hereAt s p) (past p 3))
+      twoAt s (p .at + 2) ≤ largestTime → RowIs s p n (one (hereAt s p) (past p 3))
   row-either :
       getD s (p .at) 0 ≡ eitherKind → past p 7 .at ≤ length s → n < mostJobs →
-      wordAt s (p .at + 2) ≤ largestTime → wordAt s (p .at + 4) ≤ largestTime → wordAt s (p .at + 6) ≤ largestTime →
+      twoAt s (p .at + 2) ≤ largestTime → twoAt s (p .at + 4) ≤ largestTime → twoAt s (p .at + 6) ≤ largestTime →
       RowIs s p n (one (eitherAt s p) (past p 7))
   row-end : getD s (p .at) 0 ≡ tableEnd → past p 0 .at ≤ length s → RowIs s p n (last (past p 0))
   row-out : (f : Refusal) → RowIs s p n (bad f)
@@ -79,12 +80,12 @@ module _ (s : List ℕ) (p : Place) (n : ℕ) where
   body-tells : (k : RowKind) → getD s (p .at) 0 ≡ rowByte k → past p (rowLength k) .at ≤ length s → Tells (rowBody s p n (past p (rowLength k)) k)
   body-tells HereRow b h =
       cond-all Tells (ltb n mostJobs)
-      (λ few. cond-all Tells (timeOk (wordAt s (p .at + 2))) (λ t. row-here b h (ltb-true _ _ few) (leb-true _ _ t)) (λ o. row-out _))
+      (λ few. cond-all Tells (timeOk (twoAt s (p .at + 2))) (λ t. row-here b h (ltb-true _ _ few) (leb-true _ _ t)) (λ o. row-out _))
       (λ o. row-out _)
   body-tells EitherRow b h =
       cond-all Tells (ltb n mostJobs)
       (λ few.
-      cond-all Tells (timeOk (wordAt s (p .at + 2)) && (timeOk (wordAt s (p .at + 4)) && timeOk (wordAt s (p .at + 6))))
+      cond-all Tells (timeOk (twoAt s (p .at + 2)) && (timeOk (twoAt s (p .at + 4)) && timeOk (twoAt s (p .at + 6))))
       (λ t.
       let l = both _ _ t in
       let m = both _ _ (l .1) in

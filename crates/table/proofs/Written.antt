@@ -9,15 +9,8 @@ use Rattle.table.specs.declared.refusal.Place.{Place}
 use Rattle.table.specs.Refusals.{past}
 use Rattle.table.specs.Kinds.{tableEnd}
 use Rattle.table.specs.Records.{one, last}
-use Rattle.table.specs.Tables.{wordBytes, jobBytes, jobsBytes}
+use Rattle.table.specs.Tables.{jobBytes, jobsBytes}
 use Rattle.table.proofs.Tables.{RowIs, row-here, row-either, row-end}
-
--- the two bytes of a two-byte number
-pub word-parts : (a b : ℕ) → a < 256 → wordBytes (a + 256 * b) ≡ a ∷ b ∷ []
-word-parts a b h =
-    let low : (a + 256 * b) % 256 ≡ a = omega arith in
-    let high : (a + 256 * b) / 256 ≡ b = omega arith in
-    rw (low, high)
 
 -- the bytes of a table are its frame record's, those of each job, and the end record's
 pub jobs-flat : (js : List Job) → jobsBytes js ≡ flatMap jobBytes js ++ (tableEnd ∷ [])

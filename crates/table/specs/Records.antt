@@ -19,10 +19,6 @@ use Rattle.table.specs.declared.kind.Form.{Form}
 use Rattle.table.specs.Refusals.{past, Outcome, accepted, refused}
 use Rattle.table.specs.Kinds.{frameKind, hereKind, eitherKind, tableEnd, runHere, sendAway, planEnd}
 
--- "Two-byte numbers are low byte first."
-abbrev pub wordAt : List ℕ → ℕ → ℕ
-wordAt s at = getD s at 0 + 256 * getD s (at + 1) 0
-
 abbrev pub form : Meaning → ℕ → Form
 form m n = record { meaning = m; body = n }
 

@@ -13,6 +13,7 @@ use Rattle.model.specs.Positions.{noJob}
 use Rattle.model.specs.Lists.{All, Pairwise}
 use Rattle.model.specs.Timetable.{setupTime, returnTime, Chosen}
 use Rattle.model.specs.FreeOrder.{busy}
+use Rattle.bytes.specs.Numbers.{twoAt, twoBytes}
 use Rattle.table.specs.declared.refusal.Place.{Place}
 use Rattle.table.specs.declared.refusal.Refusal.the-variants.{Range, Many, After}
 use Rattle.table.specs.declared.kind.RowKind.{RowKind}
@@ -28,7 +29,7 @@ use Rattle.table.specs.declared.TableRead.{TableRead}
 use Rattle.table.specs.Limits.{mostJobs, largestTime}
 use Rattle.table.specs.Refusals.{start, refusalSays, Outcome, accepted, refused}
 use Rattle.table.specs.Kinds.{frameKind, hereKind, eitherKind, tableEnd}
-use Rattle.table.specs.Records.{wordAt, frameOnly, rowOnly, judged, Entry, one, last, bad, listFrom}
+use Rattle.table.specs.Records.{frameOnly, rowOnly, judged, Entry, one, last, bad, listFrom}
 
 -- What a table means: a deadline and its jobs.
 pub record JobTable : Type 0 where
@@ -50,7 +51,7 @@ timeOk t = leb t largestTime
 -- The first record: D, and the place of the record after it.
 abbrev pub deadlineAt : List ℕ → Place → Place → FrameRead
 deadlineAt s p next =
-    let D = wordAt s (p .at + 1) in
+    let D = twoAt s (p .at + 1) in
     cond (ltb 0 D && timeOk D) (FrameIs D next) (FrameRefused (Range p))
 
 unfoldable pub frameAt : List ℕ → Place → FrameRead
@@ -58,17 +59,17 @@ frameAt s p = judged FrameRefused (λ (next : Place) (u : Unit {0}). deadlineAt 
 
 -- The bodies of the two kinds of job, once they are whole: "here-only: id, C", "either: id, C, S, I".
 abbrev pub hereAt : List ℕ → Place → Job
-hereAt s p = record { id = getD s (p .at + 1) 0; local = wordAt s (p .at + 2); sending = HereOnly }
+hereAt s p = record { id = getD s (p .at + 1) 0; local = twoAt s (p .at + 2); sending = HereOnly }
 
 abbrev pub eitherAt : List ℕ → Place → Job
-eitherAt s p = record { id = getD s (p .at + 1) 0; local = wordAt s (p .at + 2); sending = Either (wordAt s (p .at + 4)) (wordAt s (p .at + 6)) }
+eitherAt s p = record { id = getD s (p .at + 1) 0; local = twoAt s (p .at + 2); sending = Either (twoAt s (p .at + 4)) (twoAt s (p .at + 6)) }
 
 abbrev pub hereJob : List ℕ → Place → Place → JobRead
-hereJob s p next = cond (timeOk (wordAt s (p .at + 2))) (JobIs (hereAt s p) next) (JobRefused (Range p))
+hereJob s p next = cond (timeOk (twoAt s (p .at + 2))) (JobIs (hereAt s p) next) (JobRefused (Range p))
 
 abbrev pub eitherJob : List ℕ → Place → Place → JobRead
 eitherJob s p next =
-    cond (timeOk (wordAt s (p .at + 2)) && (timeOk (wordAt s (p .at + 4)) && timeOk (wordAt s (p .at + 6))))
+    cond (timeOk (twoAt s (p .at + 2)) && (timeOk (twoAt s (p .at + 4)) && timeOk (twoAt s (p .at + 6))))
     (JobIs (eitherAt s p) next)
     (JobRefused (Range p))
 
@@ -158,12 +159,9 @@ isWhole (Refused f) = false
 
 -- The bytes of a table: the one byte string that reads as it.
 
-abbrev pub wordBytes : ℕ → List ℕ
-wordBytes n = n % 256 ∷ n / 256 ∷ []
-
 abbrev pub sendingBytes : ℕ → ℕ → Sending → List ℕ
-sendingBytes id C HereOnly = hereKind ∷ id ∷ wordBytes C
-sendingBytes id C (Either S I) = eitherKind ∷ id ∷ (wordBytes C ++ (wordBytes S ++ wordBytes I))
+sendingBytes id C HereOnly = hereKind ∷ id ∷ twoBytes C
+sendingBytes id C (Either S I) = eitherKind ∷ id ∷ (twoBytes C ++ (twoBytes S ++ twoBytes I))
 
 abbrev pub jobBytes : Job → List ℕ
 jobBytes j = sendingBytes (j .id) (j .local) (j .sending)
@@ -173,4 +171,4 @@ jobsBytes [] = tableEnd ∷ []
 jobsBytes (j ∷ js) = jobBytes j ++ jobsBytes js
 
 unfoldable pub tableBytes : JobTable → List ℕ
-tableBytes t = frameKind ∷ (wordBytes (t .deadline) ++ jobsBytes (t .jobs))
+tableBytes t = frameKind ∷ (twoBytes (t .deadline) ++ jobsBytes (t .jobs))

@@ -12,7 +12,6 @@ ghost use mathlib.Core.Path.{_≡_};
 ghost use Prim.Native.Nat.{_+_, _<_, _≤_};
 ghost use lib.ListN.{length};
 ghost use Rattle.table.specs.Limits.{mostJobs, largestTime, longestTable, longestPlan};
-ghost use Rattle.table.specs.Records.{wordAt};
 ghost use Rattle.table.specs.Tables.{frameAt, hereJob, eitherJob, jobAt, afterFrame, readTable, emptyTable, tableRead, endVerdict, isWhole};
 
 pub struct Table {
@@ -97,19 +96,6 @@ pub struct TableRead {
     pub table: Table,
 }
 
-fn wide(b: u8) -> u16
-    ensures { λ r. ⌜ r ≡ b ⌝ }
-{
-    b as u16
-}
-
-fn word_at(s: &[u8], at: usize) -> u16
-    requires { ⌜ at + 1 < length (now s) ⌝ }
-    ensures { λ r. ⌜ r ≡ wordAt (now (s .entry)) at ⌝ }
-{
-    wide(s[at]) + 256 * wide(s[at + 1])
-}
-
 // The record at a place where a table begins.
 fn frame_at(s: &[u8], p: Place) -> FrameRead
     ensures { λ r. ⌜ r ≡ frameAt (now (s .entry)) p ⌝ }
@@ -128,7 +114,7 @@ fn frame_at(s: &[u8], p: Place) -> FrameRead
         return FrameRead::FrameRefused(Refusal::Short(p));
     }
     let next = p.past(body);
-    let d = word_at(s, at + 1);
+    let d = bytes::two_at(s, at + 1);
     if d == 0 {
         return FrameRead::FrameRefused(Refusal::Range(p));
     }
@@ -143,7 +129,7 @@ fn here_job(s: &[u8], p: Place, next: Place) -> JobRead
     ensures { λ r. ⌜ r ≡ hereJob (now (s .entry)) p next ⌝ }
 {
     let at = p.at;
-    let local = word_at(s, at + 2);
+    let local = bytes::two_at(s, at + 2);
     if local <= Table::LARGEST_TIME {
         JobRead::JobIs(
             Job {
@@ -163,9 +149,9 @@ fn either_job(s: &[u8], p: Place, next: Place) -> JobRead
     ensures { λ r. ⌜ r ≡ eitherJob (now (s .entry)) p next ⌝ }
 {
     let at = p.at;
-    let local = word_at(s, at + 2);
-    let setup = word_at(s, at + 4);
-    let back = word_at(s, at + 6);
+    let local = bytes::two_at(s, at + 2);
+    let setup = bytes::two_at(s, at + 4);
+    let back = bytes::two_at(s, at + 6);
     if Table::LARGEST_TIME < local {
         return JobRead::JobRefused(Refusal::Range(p));
     }

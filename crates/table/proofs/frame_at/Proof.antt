@@ -62,28 +62,28 @@ opens c =
     (opened _ _ _ _ _ (c .before .before .before .before .form-of .ensures) (c .before .before .before .before .before .before .if1 .left) tt
     (ap frameOnly (c .before .before .enum-told .given .1)) (c .before .if2 .left))
 
-add-word-at : tie.Need-add-word-at
-add-word-at c = search needs
+add-two-at : tie.Need-add-two-at
+add-two-at c = search needs
 
-word-at-requires : tie.Need-word-at-requires
-word-at-requires c κs =
+two-at-requires : tie.Need-two-at-requires
+two-at-requires c κs =
     let told = c .before .before .before .before .form-of .ensures in
     omega (arith, ap (λ (f : Form). f .body) told, frame-kind _ (sym (ap (λ (f : Form). f .meaning) told) ∙ c .before .before .enum-told .given .1) .1)
 
 returns-4 : tie.Need-returns-4
 returns-4 c =
-    let zero : c .before .word-at .result ≤ 0 = omega arith in
-    sym (opens (c .before .before) ∙ simp (← c .before .word-at .ensures, le-ltb _ _ zero))
+    let zero : c .before .two-at .result ≤ 0 = omega arith in
+    sym (opens (c .before .before) ∙ simp (← c .before .two-at .ensures, le-ltb _ _ zero))
 
 returns-5 : tie.Need-returns-5
 returns-5 c =
-    let above : 0 < c .before .before .word-at .result = omega arith in
-    sym (opens (c .before .before .before) ∙ simp (← c .before .before .word-at .ensures, lt-ltb _ _ above, lt-leb _ _ (c .if4 .taken)))
+    let above : 0 < c .before .before .two-at .result = omega arith in
+    sym (opens (c .before .before .before) ∙ simp (← c .before .before .two-at .ensures, lt-ltb _ _ above, lt-leb _ _ (c .if4 .taken)))
 
 returns-6 : tie.Need-returns-6
 returns-6 c =
-    let above : 0 < c .before .before .word-at .result = omega arith in
-    sym (opens (c .before .before .before) ∙ simp (← c .before .before .word-at .ensures, lt-ltb _ _ above, le-leb _ _ (c .if4 .left)))
+    let above : 0 < c .before .before .two-at .result = omega arith in
+    sym (opens (c .before .before .before) ∙ simp (← c .before .before .two-at .ensures, lt-ltb _ _ above, le-leb _ _ (c .if4 .left)))
 
 pub frame-at-spec : {M : Type 1} → statement M
 frame-at-spec =
@@ -98,8 +98,8 @@ frame-at-spec =
     sub-if2
     returns-3
     past-requires
-    add-word-at
-    word-at-requires
+    add-two-at
+    two-at-requires
     returns-4
     returns-5
     returns-6)
