@@ -46,7 +46,8 @@ no-text (suc m) f at s e = simp (eq-eqb _ _ e)
 -- a turn's line, and the text of the turns after it
 more-text :
     (m : ℕ) (f : Frame) (at : ℕ) (s : List ℕ) → (length s ≡ 0 → ⊥) →
-    textFrom (suc m) f at s ≡ lineOf f at s (recordAt s) ++ textFrom m (frameAfter f s (recordAt s)) (at + goneBy s (recordAt s)) (drop (goneBy s (recordAt s)) s)
+    textFrom (suc m) f at s ≡
+    lineOf f at s (recordAt s) ++ textFrom m (frameAfter f s (recordAt s)) (at + goneBy s (recordAt s)) (drop (goneBy s (recordAt s)) s)
 unfolding textFrom
 more-text m f at s h = simp (ne-eqb _ _ h)
 
