@@ -2,3 +2,4 @@ pub mod Records
 pub mod Rooms
 pub mod Turns
 pub mod Runs
+pub mod Examples

@@ -13,7 +13,7 @@ use Rattle.bytes.specs.Writing.{Wrote}
 use Rattle.frame_record.specs.declared.Frame.{Frame}
 use Rattle.frame_record.specs.Answers.{idle}
 use Rattle.replaying.specs.declared.Turn.{Turn}
-use Rattle.replaying.specs.Log.{recordAt, frameAfter, goneBy, after, replayed}
+use Rattle.replaying.specs.Log.{recordAt, frameAfter, goneBy, frameFrom, replayed}
 use Rattle.replaying.specs.Lines.{lineOf, textFrom, replayText, TurnAt}
 use Rattle.replaying.proofs.Turns.{rest, rest-all, nothing, unrolled, turn-some}
 use Rattle.replaying.proofs.next_line.Reads as next-line
@@ -46,14 +46,15 @@ no-text (suc m) f at s e = simp (eq-eqb _ _ e)
 -- a turn's line, and the text of the turns after it
 more-text :
     (m : ℕ) (f : Frame) (at : ℕ) (s : List ℕ) → (length s ≡ 0 → ⊥) →
-    textFrom (suc m) f at s ≡ lineOf f at s (recordAt s) ++ textFrom m (frameAfter f s (recordAt s)) (at + goneBy s (recordAt s)) (drop (goneBy s (recordAt s)) s)
+    textFrom (suc m) f at s ≡
+    lineOf f at s (recordAt s) ++ textFrom m (frameAfter f s (recordAt s)) (at + goneBy s (recordAt s)) (drop (goneBy s (recordAt s)) s)
 unfolding textFrom
 more-text m f at s h = simp (ne-eqb _ _ h)
 
 module _ (log : List ℕ) where
   walk :
       (m : ℕ) {f g : Frame} {at : ℕ} {text : List ℕ} → length log ≤ at + m → Run log f at text g →
-      (text ≡ textFrom m f at (drop at log)) × (g ≡ after m f (drop at log))
+      (text ≡ textFrom m f at (drop at log)) × (g ≡ frameFrom m f (drop at log))
   walk m {f} {g} {at} enough (over end) =
       let none : length (drop at log) ≡ 0 = omega (arith, length-drop at log) in
       (sym (no-text m f at (drop at log) none), sym (nothing m f (drop at log) none))
@@ -67,7 +68,7 @@ module _ (log : List ℕ) where
       let on : drop (at + r .gone) log ≡ drop (goneBy s (recordAt s)) s = rw (t .gone) (sym (drop-drop (goneBy s (recordAt s)) at log)) in
       let lines : text ≡ textFrom m (frameAfter f s (recordAt s)) (at + goneBy s (recordAt s)) (drop (goneBy s (recordAt s)) s) =
       rw (on, t .frame, t .gone) at (w .0) in
-      let frame : g ≡ after m (frameAfter f s (recordAt s)) (drop (goneBy s (recordAt s)) s) = rw (on, t .frame) at (w .1) in (
+      let frame : g ≡ frameFrom m (frameAfter f s (recordAt s)) (drop (goneBy s (recordAt s)) s) = rw (on, t .frame) at (w .1) in (
         ap (λ (l : List ℕ). l ++ text) (handed before (lineOf f at s (recordAt s)) area (r .size) (t .line))
             ∙ ap (λ (l : List ℕ). lineOf f at s (recordAt s) ++ l) lines ∙ sym (more-text m f at s left),
         frame ∙ sym (unrolled m f s left),

@@ -8,7 +8,7 @@ use lib.Seq.{take-all, drop-drop}
 use borrow.Author.Tests.{eq-eqb, ne-eqb}
 use Rattle.frame_record.specs.declared.Frame.{Frame}
 use Rattle.replaying.specs.declared.Turn.{Turn}
-use Rattle.replaying.specs.Log.{recordAt, frameAfter, goneBy, after}
+use Rattle.replaying.specs.Log.{recordAt, frameAfter, goneBy, frameFrom}
 use Rattle.replaying.specs.Lines.{Moved}
 use Rattle.replaying.proofs.Records.{gone-some, gone-within}
 
@@ -17,7 +17,7 @@ pub record Going (log : List ℕ) (first now : Frame) (at : ℕ) : Type 0 where
   pub most : ℕ
   pub within : at ≤ length log
   pub enough : length log ≤ at + most
-  pub same : after most now (drop at log) ≡ after (length log) first log
+  pub same : frameFrom most now (drop at log) ≡ frameFrom (length log) first log
 
 -- what is left of the log, as the code cuts it
 abbrev pub rest : List ℕ → ℕ → List ℕ
@@ -26,21 +26,21 @@ rest log at = take (length log - at) (drop at log)
 pub rest-all : (log : List ℕ) (at : ℕ) → rest log at ≡ drop at log
 rest-all log at = take-all (length log - at) (drop at log) (omega (arith, length-drop at log))
 
-pub nothing : (m : ℕ) (f : Frame) (s : List ℕ) → length s ≡ 0 → after m f s ≡ f
-unfolding after
+pub nothing : (m : ℕ) (f : Frame) (s : List ℕ) → length s ≡ 0 → frameFrom m f s ≡ f
+unfolding frameFrom
 nothing zero f s e = refl
 nothing (suc m) f s e = simp (eq-eqb _ _ e)
 
 pub unrolled :
     (m : ℕ) (f : Frame) (s : List ℕ) → (length s ≡ 0 → ⊥) →
-    after (suc m) f s ≡ after m (frameAfter f s (recordAt s)) (drop (goneBy s (recordAt s)) s)
-unfolding after
+    frameFrom (suc m) f s ≡ frameFrom m (frameAfter f s (recordAt s)) (drop (goneBy s (recordAt s)) s)
+unfolding frameFrom
 unrolled m f s h = simp (ne-eqb _ _ h)
 
 pub starts : (log : List ℕ) (f : Frame) → Going log f f 0
 starts log f = record { most = length log; within = omega arith; enough = omega arith; same = refl }
 
-pub ends : (log : List ℕ) (f g : Frame) (at : ℕ) → Going log f g at → length log ≤ at → g ≡ after (length log) f log
+pub ends : (log : List ℕ) (f g : Frame) (at : ℕ) → Going log f g at → length log ≤ at → g ≡ frameFrom (length log) f log
 ends log f g at w h =
     let none : length (drop at log) ≡ 0 = omega (arith, length-drop at log) in
     sym (nothing (w .most) g (drop at log) none) ∙ w .same
@@ -57,7 +57,7 @@ module _ (log : List ℕ) (at : ℕ) (more : at < length log) where
   turn-within = omega (arith, gone-within (drop at log), length-drop at log)
 
   turn-by :
-      (m : ℕ) (f g : Frame) → length log ≤ at + m → after m g (drop at log) ≡ after (length log) f log →
+      (m : ℕ) (f g : Frame) → length log ≤ at + m → frameFrom m g (drop at log) ≡ frameFrom (length log) f log →
       Going log f (frameAfter g (drop at log) (recordAt (drop at log))) (at + goneBy (drop at log) (recordAt (drop at log)))
   turn-by zero f g h s = absurd (omega arith)
   turn-by (suc m) f g h s =
@@ -67,7 +67,7 @@ module _ (log : List ℕ) (at : ℕ) (more : at < length log) where
         within = turn-within;
         enough = omega (arith, turn-some);
         same =
-            ap (after m (frameAfter g (drop at log) (recordAt (drop at log)))) (sym (drop-drop gone at log))
+            ap (frameFrom m (frameAfter g (drop at log) (recordAt (drop at log)))) (sym (drop-drop gone at log))
             ∙ sym (unrolled m g (drop at log) (λ e. omega (arith, e, some-left)))
             ∙ s;
       }

@@ -85,10 +85,10 @@ goneBy s (Whole k n) = n
 goneBy s Stop = length s
 
 -- the frame's record after the turns that are left, of which there may be `most`
-unfoldable pub after : ℕ → Frame → List ℕ → Frame
-after zero f s = f
-after (suc most) f s = cond (eqb (length s) 0) f (after most (frameAfter f s (recordAt s)) (drop (goneBy s (recordAt s)) s))
+unfoldable pub frameFrom : ℕ → Frame → List ℕ → Frame
+frameFrom zero f s = f
+frameFrom (suc most) f s = cond (eqb (length s) 0) f (frameFrom most (frameAfter f s (recordAt s)) (drop (goneBy s (recordAt s)) s))
 
 -- the frame's record after a log from idle: a turn takes at least one byte
 unfoldable pub replayed : List ℕ → Frame
-replayed s = after (length s) idle s
+replayed s = frameFrom (length s) idle s

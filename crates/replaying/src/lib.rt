@@ -1,6 +1,6 @@
 // A frame's log as text: calls read from bytes, made one after another on one record, a line written for each.
 // specs/Log.antt has the record at the front of a log and the call that it is, specs/Lines.antt the line of each call and the text of a log.
-// No contract can speak of standard output: that a line's bytes go there, one line after the other, stands in `shown` and `replay` alone.
+// No contract can speak of standard output: that a line's bytes go there, one line after the other, stands in `print_line` and `replay` alone.
 use frame_record::Answer;
 use frame_record::Called;
 use frame_record::Event;
@@ -303,7 +303,7 @@ fn next_line(frame: Frame, at: usize, s: &[u8], out: &mut [u8]) -> Turn
 }
 
 // Makes one turn and writes its line to standard output in one piece.
-fn shown(frame: Frame, at: usize, s: &[u8]) -> Turn
+fn print_line(frame: Frame, at: usize, s: &[u8]) -> Turn
     ensures { λ r. ⌜ Moved frame (now (s .entry)) r ⌝ }
 {
     let mut out = [0u8; 64];
@@ -322,7 +322,7 @@ pub fn replay(log: &[u8]) -> Frame
     let mut at = 0;
     while at < log.len() {
         let rest = &log[at..];
-        let turn = shown(frame, at, rest);
+        let turn = print_line(frame, at, rest);
         frame = turn.frame;
         at += turn.gone;
     }

@@ -10,6 +10,7 @@ use Rattle.table.proofs as table
 use Rattle.table.specs.Limits.{largestTime}
 use Rattle.bytes.proofs as bytes
 use Rattle.lookup.proofs as lookup
+use Rattle.lines.proofs as lines
 use Rattle.plan.proofs as plan
 use Rattle.order.proofs as order
 use Rattle.rows.proofs as rows
@@ -75,13 +76,37 @@ numbers-of κs i r s m n p q = (p ∙ sym q, refl)
 pub read-table : Settles table.read_table.ended table.read_table.Reads.Learnt
 read-table κs i r s m n p q = (p ∙ sym q, refl)
 
--- ---- bytes
+-- ---- bytes, lines
 
 pub put : Settles bytes.put.ended bytes.put.Reads.Learnt
 put κs i r s m n p q = (p .place ∙ sym (q .place), λ k. ((p .area ∙ sym (q .area)) k, m .1))
 
 pub put-number : Settles bytes.put_number.ended bytes.put_number.Reads.Learnt
 put-number κs i r s m n p q = (p .place ∙ sym (q .place), λ k. ((p .area ∙ sym (q .area)) k, m .1))
+
+pub put-two : Settles bytes.put_two.ended bytes.put_two.Reads.Learnt
+put-two κs i r s m n p q = (p .place ∙ sym (q .place), λ k. ((p .area ∙ sym (q .area)) k, m .1))
+
+pub put-four : Settles bytes.put_four.ended bytes.put_four.Reads.Learnt
+put-four κs i r s m n p q = (p .place ∙ sym (q .place), λ k. ((p .area ∙ sym (q .area)) k, m .1))
+
+pub put-hex : Settles bytes.put_hex.ended bytes.put_hex.Reads.Learnt
+put-hex κs i r s m n p q = (p .place ∙ sym (q .place), λ k. ((p .area ∙ sym (q .area)) k, m .1))
+
+pub two-at : Settles bytes.two_at.ended bytes.two_at.Reads.Learnt
+two-at κs i r s m n p q = (p ∙ sym q, refl)
+
+pub four-at : Settles bytes.four_at.ended bytes.four_at.Reads.Learnt
+four-at κs i r s m n p q = (p ∙ sym q, refl)
+
+pub put-field : Settles lines.put_field.ended lines.put_field.Reads.Learnt
+put-field κs i r s m n p q = (p .place ∙ sym (q .place), λ k. ((p .area ∙ sym (q .area)) k, m .1))
+
+pub put-pair : Settles lines.put_pair.ended lines.put_pair.Reads.Learnt
+put-pair κs i r s m n p q = (p .place ∙ sym (q .place), λ k. ((p .area ∙ sym (q .area)) k, m .1))
+
+pub put-refused : Settles lines.put_refused.ended lines.put_refused.Reads.Learnt
+put-refused κs i r s m n p q = (p .place ∙ sym (q .place), λ k. ((p .area ∙ sym (q .area)) k, m .1))
 
 -- ---- lookup
 

@@ -25,6 +25,12 @@ use Rattle.table.specs.Records.{form, formOf}
 use Rattle.table.specs.Refusals.{start, past}
 use Rattle.table.specs.Tables.{emptyTable}
 use Rattle.table.proofs as table
+use Rattle.bytes.specs.Decimals.{digitsIn, decimal}
+use Rattle.bytes.specs.Numbers.{fourAt}
+use Rattle.bytes.proofs.Hex.{hex-digits}
+use Rattle.bytes.proofs as bytes
+use Rattle.lines.specs.Lines.{pairLine}
+use Rattle.lines.proofs as lines
 use Rattle.plan.specs.declared.Plan.{Plan}
 use Rattle.plan.specs.declared.Step.{Step}
 use Rattle.plan.specs.Plans.{planOf, withStep, stepAt}
@@ -143,6 +149,58 @@ numbers-of = (
   (λ m e. let z : _≡_ {A = ℕ} 12 11 = ap (λ (s : Said). s .number) e in omega arith),
   (λ m e. let z : _≡_ {A = ℕ} 0 7 = ap (λ (s : Said). s .place) e in omega arith),
 )
+
+-- ---- bytes, lines
+
+-- high byte first; the high byte dropped, or the high half
+abbrev TwoAtNot : ℕ → Type 0
+TwoAtNot r = RulesOut bytes.two_at.ended bytes.two_at.Reads.Learnt ([], tt) (to (1 ∷ 2 ∷ []), (0, tt)) r
+
+pub two-at : TwoAtNot 258 × TwoAtNot 1
+two-at = ((λ m e. omega (arith, e)), (λ m e. omega (arith, e)))
+
+abbrev FourAtNot : ℕ → Type 0
+FourAtNot r = RulesOut bytes.four_at.ended bytes.four_at.Reads.Learnt ([], tt) (to (1 ∷ 2 ∷ 3 ∷ 4 ∷ []), (0, tt)) r
+
+pub four-at : FourAtNot 16909060 × FourAtNot 513
+unfolding fourAt
+four-at = ((λ m e. omega (arith, e)), (λ m e. omega (arith, e)))
+
+-- a place one short of the bytes, or one past them
+abbrev PutTwoNot : ℕ → Type 0
+PutTwoNot r = RulesOut bytes.put_two.ended bytes.put_two.Reads.Learnt ([], tt) (to (0 ∷ 0 ∷ 0 ∷ []), (0, (513, tt))) r
+
+pub put-two : PutTwoNot 1 × PutTwoNot 3
+put-two = ((λ m e. omega (arith, e .place)), (λ m e. omega (arith, e .place)))
+
+abbrev PutFourNot : ℕ → Type 0
+PutFourNot r = RulesOut bytes.put_four.ended bytes.put_four.Reads.Learnt ([], tt) (to (replicate 5 0), (0, (513, tt))) r
+
+pub put-four : PutFourNot 3 × PutFourNot 5
+put-four = ((λ m e. omega (arith, e .place)), (λ m e. omega (arith, e .place)))
+
+abbrev PutHexNot : ℕ → Type 0
+PutHexNot r = RulesOut bytes.put_hex.ended bytes.put_hex.Reads.Learnt ([], tt) (to (replicate 9 0), (0, (513, tt))) r
+
+pub put-hex : PutHexNot 7 × PutHexNot 9
+put-hex = ((λ m e. omega (arith, e .place, hex-digits 513 .0)), (λ m e. omega (arith, e .place, hex-digits 513 .0)))
+
+-- the place before the number; the place before the line's end
+abbrev PutFieldNot : ℕ → Type 0
+PutFieldNot r = RulesOut lines.put_field.ended lines.put_field.Reads.Learnt ([], ([], tt)) (to (0 ∷ 0 ∷ []), (0, (to (0x20 ∷ []), (7, tt)))) r
+
+pub put-field : PutFieldNot 1
+unfolding decimal digitsIn
+put-field = λ m e. omega (arith, e .place)
+
+abbrev PutPairNot : ℕ → Type 0
+PutPairNot r =
+    RulesOut lines.put_pair.ended lines.put_pair.Reads.Learnt ([], ([], ([], tt)))
+    (to (replicate 5 0), (0, (to (0x20 ∷ []), (7, (to (0x20 ∷ []), (8, tt)))))) r
+
+pub put-pair : PutPairNot 4
+unfolding pairLine decimal digitsIn
+put-pair = λ m e. omega (arith, e .place)
 
 -- ---- plan, draft
 

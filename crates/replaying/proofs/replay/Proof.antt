@@ -1,4 +1,4 @@
--- `replaying::replay` meets its contract: a turn of the loop is a turn of `after` (proofs/Turns.antt). The measure is what is left of the log.
+-- `replaying::replay` meets its contract: a turn of the loop is a turn of `frameFrom` (proofs/Turns.antt). The measure is what is left of the log.
 -- Assumes nothing.
 use Prim.Native.Nat.{_-_}
 use native.Mathlib.Omega.{arith}
@@ -7,7 +7,7 @@ use lib.ListN.{length}
 use denote.Ref.{now}
 use borrow.Author.Needs.{needs}
 use Rattle.frame_record.specs.declared.Frame.{Frame}
-use Rattle.replaying.specs.Log.{after, replayed}
+use Rattle.replaying.specs.Log.{frameFrom, replayed}
 use Rattle.replaying.proofs.Turns.{Going, starts, ends, turn, moved}
 use Rattle.replaying.proofs.replay.Statement.{statement}
 use Rattle.replaying.proofs.replay.Tie as tie
@@ -33,21 +33,21 @@ part-rest-start c = search needs
 part-rest-end : tie.Need-part-rest-end Inv-loop μ-loop
 part-rest-end c = search needs
 
-shown-requires : tie.Need-shown-requires Inv-loop μ-loop
-shown-requires c κs = search needs
+print-line-requires : tie.Need-print-line-requires Inv-loop μ-loop
+print-line-requires c κs = search needs
 
 add-at : tie.Need-add-at Inv-loop μ-loop
 add-at c =
     let p = c .before .before .before .before in
     let log = now (p .before .before .before .before .args .log) in
-    let m = moved log (p .before .loop .at) (p .loop-test .taken) (p .before .loop .frame) _ (c .before .before .shown .ensures) in
+    let m = moved log (p .before .loop .at) (p .loop-test .taken) (p .before .loop .frame) _ (c .before .before .print-line .ensures) in
     omega (arith, m .1)
 
 loop-less : tie.Need-loop-less Inv-loop μ-loop
 loop-less c =
     let p = c .before .before .before .before in
     let log = now (p .before .before .before .before .args .log) in
-    let m = moved log (p .before .loop .at) (p .loop-test .taken) (p .before .loop .frame) _ (c .before .before .shown .ensures) in
+    let m = moved log (p .before .loop .at) (p .loop-test .taken) (p .before .loop .frame) _ (c .before .before .print-line .ensures) in
     omega (arith, m .0, m .1)
 
 loop-again : tie.Need-loop-again Inv-loop μ-loop
@@ -55,8 +55,8 @@ loop-again c =
     let p = c .before .before .before .before in
     let l = p .before .loop in
     let log = now (p .before .before .before .before .args .log) in
-    turn log (l .at) (p .loop-test .taken) (p .before .before .idle .result) (l .frame) (c .before .before .shown .result) (l .inv)
-    (c .before .before .shown .ensures)
+    turn log (l .at) (p .loop-test .taken) (p .before .before .idle .result) (l .frame) (c .before .before .print-line .result) (l .inv)
+    (c .before .before .print-line .ensures)
 
 returns : tie.Need-returns Inv-loop μ-loop
 unfolding replayed
@@ -64,7 +64,7 @@ returns c =
     let l = c .before .loop in
     let log = now (c .before .before .before .before .args .log) in
     ends log (c .before .before .idle .result) (l .frame) (l .at) (l .inv) (c .loop-test .left)
-    ∙ ap (λ (f : Frame). after (length log) f log) (c .before .before .idle .ensures)
+    ∙ ap (λ (f : Frame). frameFrom (length log) f log) (c .before .before .idle .ensures)
 
 pub replay-spec : {M : Type 1} → statement M
 replay-spec =
@@ -77,7 +77,7 @@ replay-spec =
     sub-rest
     part-rest-start
     part-rest-end
-    shown-requires
+    print-line-requires
     add-at
     loop-less
     loop-again

@@ -1,10 +1,10 @@
--- `replaying::shown` meets its contract: the line that is written out lies within the buffer. Assumes nothing.
+-- `replaying::print_line` meets its contract: the line that is written out lies within the buffer. Assumes nothing.
 use native.Mathlib.Omega.{arith}
 use mathlib.Core.Path.{sym}
 use lib.Seq.{length-take-le}
 use borrow.Author.Needs.{needs}
-use Rattle.replaying.proofs.shown.Statement.{statement}
-use Rattle.replaying.proofs.shown.Tie as tie
+use Rattle.replaying.proofs.print_line.Statement.{statement}
+use Rattle.replaying.proofs.print_line.Tie as tie
 
 slice-aggregate-next-line : tie.Need-slice-aggregate-next-line
 slice-aggregate-next-line c = search needs
@@ -24,8 +24,8 @@ write-all-requires c κs = search needs
 returns : tie.Need-returns
 returns c = search needs
 
-pub shown-spec : {M : Type 1} → statement M
-shown-spec =
+pub print-line-spec : {M : Type 1} → statement M
+print-line-spec =
     tie.close
     (tie.spec
     slice-aggregate-next-line
