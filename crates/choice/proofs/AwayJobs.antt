@@ -10,11 +10,11 @@ use Rattle.model.specs.declared.Job.{Job}
 use Rattle.model.specs.Lists.{filter, falling}
 use Rattle.model.specs.Timetable.{isEither, returnTime}
 use Rattle.model.specs.Recurrence.{jobsInAwayOrder}
-use Rattle.model.specs.Positions.{countFrom, noJob, canGoAt, places}
+use Rattle.model.specs.Positions.{countFrom, noJob, canGoAt, positions}
 use Rattle.model.proofs.Lists.{all-at, padded}
 use Rattle.model.proofs.Permutations.{length-perm, perm-falling, perm-split}
 use Rattle.model.proofs.Sorts.{map-filter, map-falling}
-use Rattle.model.proofs.Places.{places-below}
+use Rattle.model.proofs.Positions.{positions-below}
 use Rattle.choice.specs.Choices.{jobsAt}
 
 module _ {A : Type 0} where
@@ -33,7 +33,7 @@ module _ {A : Type 0} where
       omega (arith, length-perm (perm-falling key (filter f xs)), length-perm (perm-split f xs), length-append (filter f xs) (filter (λ (x : A). not (f x)) xs))
 
 -- the jobs in away order are those at the positions in away order
-pub order-jobs : (js : List Job) → jobsInAwayOrder js ≡ jobsAt js (places js)
+pub order-jobs : (js : List Job) → jobsInAwayOrder js ≡ jobsAt js (positions js)
 order-jobs js =
     sym
     (map-falling at returnTime (filter (canGoAt js) (countFrom 0 (length js)))
@@ -42,12 +42,12 @@ order-jobs js =
     at : ℕ → Job
     at i = getD js i noJob
 
-pub as-many : (js : List Job) → length (jobsInAwayOrder js) ≡ length (places js)
-as-many js = ap length (order-jobs js) ∙ length-map (places js) (λ (i : ℕ). getD js i noJob)
+pub as-many : (js : List Job) → length (jobsInAwayOrder js) ≡ length (positions js)
+as-many js = ap length (order-jobs js) ∙ length-map (positions js) (λ (i : ℕ). getD js i noJob)
 
-pub places-few : (js : List Job) → length (places js) ≤ length js
-places-few js = omega (arith, as-many js, sorted-few returnTime isEither js)
+pub positions-few : (js : List Job) → length (positions js) ≤ length js
+positions-few js = omega (arith, as-many js, sorted-few returnTime isEither js)
 
 -- a position that is held is one of the table
-pub place-below : (js : List Job) (n k : ℕ) → k < length (places js) → getD (places js ++ replicate n 0) k 0 < length js
-place-below js n k h = rw padded (all-at (λ (i : ℕ). i < length js) (places js) 0 (places-below js) k h)
+pub position-below : (js : List Job) (n k : ℕ) → k < length (positions js) → getD (positions js ++ replicate n 0) k 0 < length js
+position-below js n k h = rw padded (all-at (λ (i : ℕ). i < length js) (positions js) 0 (positions-below js) k h)

@@ -11,7 +11,7 @@ use Rattle.model.specs.declared.Job.{Job}
 use Rattle.model.specs.Lists.{All, filter}
 use Rattle.model.specs.Timetable.{isEither, returnTime}
 use Rattle.model.specs.Recurrence.{jobsInAwayOrder, base}
-use Rattle.model.specs.Positions.{places, digits, marked}
+use Rattle.model.specs.Positions.{positions, digits, marked}
 use Rattle.model.proofs.Lists.{all-map, all-filter}
 use Rattle.model.proofs.Permutations.{all-perm, perm-falling}
 use Rattle.table.specs.Limits.{mostJobs, largestTime}
@@ -19,18 +19,18 @@ use Rattle.rows.specs.Rows as rows
 use Rattle.table.specs.Tables.{TimesOk}
 use Rattle.choice.specs.declared.Prepared.{Prepared}
 use Rattle.choice.specs.Choices.{hereTime, preparedOf, Ready, flagsOf}
-use Rattle.choice.proofs.AwayJobs.{as-many, places-few, place-below}
+use Rattle.choice.proofs.AwayJobs.{as-many, positions-few, position-below}
 
 module _ (p : Prepared) (js : List Job) (held : p ≡ preparedOf js) where
-  pub held-places : take (p .count) (p .places) ≡ places js
-  held-places = rw held (take-at (places js) _ (length (places js)) refl)
+  pub held-positions : take (p .count) (p .positions) ≡ positions js
+  held-positions = rw held (take-at (positions js) _ (length (positions js)) refl)
 
   pub held-jobs : take (p .count) (p .jobs) ≡ jobsInAwayOrder js
-  held-jobs = rw held (take-at (jobsInAwayOrder js) _ (length (places js)) (as-many js))
+  held-jobs = rw held (take-at (jobsInAwayOrder js) _ (length (positions js)) (as-many js))
 
   -- the flags by the positions that are held
-  pub held-flags : (m : ℕ) → marked (take (p .count) (p .places)) (digits (p .count) m) (replicate mostJobs false) ≡ flagsOf js m
-  held-flags m = rw (held-places, ap (λ (q : Prepared). q .count) held)
+  pub held-flags : (m : ℕ) → marked (take (p .count) (p .positions)) (digits (p .count) m) (replicate mostJobs false) ≡ flagsOf js m
+  held-flags m = rw (held-positions, ap (λ (q : Prepared). q .count) held)
 
 here-small : (j : Job) → hereTime j ≤ j .local
 here-small j = step (isEither j)
@@ -45,13 +45,13 @@ base-small (j ∷ js) a = omega (arith, here-small j, a .0 .local, base-small js
 
 module _ (p : Prepared) (r : Ready p) where
   pub ready-few : p .count ≤ mostJobs
-  ready-few = rw (r .held) (omega (arith, places-few (r .js), r .sound .few))
+  ready-few = rw (r .held) (omega (arith, positions-few (r .js), r .sound .few))
 
-  pub ready-place : (k : ℕ) → k < p .count → getD (p .places) k 0 < mostJobs
-  ready-place = rw (r .held) (λ k h. omega (arith, place-below (r .js) (mostJobs - length (places (r .js))) k h, r .sound .few))
+  pub ready-position : (k : ℕ) → k < p .count → getD (p .positions) k 0 < mostJobs
+  ready-position = rw (r .held) (λ k h. omega (arith, position-below (r .js) (mostJobs - length (positions (r .js))) k h, r .sound .few))
 
-  pub ready-whole : length (take (p .count) (p .places)) ≡ p .count
-  ready-whole = ap length (held-places p (r .js) (r .held)) ∙ sym (ap (λ (q : Prepared). q .count) (r .held))
+  pub ready-whole : length (take (p .count) (p .positions)) ≡ p .count
+  ready-whole = ap length (held-positions p (r .js) (r .held)) ∙ sym (ap (λ (q : Prepared). q .count) (r .held))
 
   -- the work rows can be asked
   pub ready-rows : (d : ℕ) → d ≤ largestTime → rows.WithinRows d (p .base) (p .jobs) (p .count)

@@ -20,30 +20,30 @@ use Rattle.choice.specs.Choices.{hereTime, jobsAt}
 pub base-more : (jobs : List Job) (k : ℕ) → k < length jobs → base (take (k + 1) jobs) ≡ base (take k jobs) + hereTime (getD jobs k noJob)
 base-more jobs k h = rw (add-one, take-suc jobs k noJob) (omega (arith, total-append hereTime (take k jobs) (getD jobs k noJob ∷ [])))
 
--- the k-th place's job is put behind those before it
-pub jobs-more : (jobs : List Job) (places : List ℕ) (k : ℕ) → length places ≡ mostJobs → k < mostJobs
-    → set (jobsAt jobs (take k places) ++ replicate (mostJobs - k) noJob) k (getD jobs (getD places k 0) noJob)
-    ≡ jobsAt jobs (take (k + 1) places) ++ replicate (mostJobs - (k + 1)) noJob
-jobs-more jobs places k l h =
+-- the k-th position's job is put behind those before it
+pub jobs-more : (jobs : List Job) (positions : List ℕ) (k : ℕ) → length positions ≡ mostJobs → k < mostJobs
+    → set (jobsAt jobs (take k positions) ++ replicate (mostJobs - k) noJob) k (getD jobs (getD positions k 0) noJob)
+    ≡ jobsAt jobs (take (k + 1) positions) ++ replicate (mostJobs - (k + 1)) noJob
+jobs-more jobs positions k l h =
     rw more
-    (set-at (jobsAt jobs (take k places)) noJob (replicate (mostJobs - (k + 1)) noJob) job k
-    (length-map (take k places) at ∙ length-take-le k places (omega arith))
-    ∙ sym (append-snoc (jobsAt jobs (take k places)) job (replicate (mostJobs - (k + 1)) noJob))
-    ∙ ap (λ (l : List Job). l ++ replicate (mostJobs - (k + 1)) noJob) (sym (ap (jobsAt jobs) taken ∙ map-append at (take k places) (getD places k 0 ∷ []))))
+    (set-at (jobsAt jobs (take k positions)) noJob (replicate (mostJobs - (k + 1)) noJob) job k
+    (length-map (take k positions) at ∙ length-take-le k positions (omega arith))
+    ∙ sym (append-snoc (jobsAt jobs (take k positions)) job (replicate (mostJobs - (k + 1)) noJob))
+    ∙ ap (λ (l : List Job). l ++ replicate (mostJobs - (k + 1)) noJob) (sym (ap (jobsAt jobs) taken ∙ map-append at (take k positions) (getD positions k 0 ∷ []))))
   where
     at : ℕ → Job
     at i = getD jobs i noJob
 
     job : Job
-    job = at (getD places k 0)
+    job = at (getD positions k 0)
 
     more : mostJobs - k ≡ suc (mostJobs - (k + 1))
     more = omega arith
 
-    taken : take (k + 1) places ≡ take k places ++ (getD places k 0 ∷ [])
-    taken = let i : k < length places = omega arith in rw (add-one, take-suc places k 0)
+    taken : take (k + 1) positions ≡ take k positions ++ (getD positions k 0 ∷ [])
+    taken = let i : k < length positions = omega arith in rw (add-one, take-suc positions k 0)
 
--- the first k places are marked: what is left of the mask still marks the others as the whole mask does
+-- the first k positions are marked: what is left of the mask still marks the others as the whole mask does
 pub record Marking (is : List ℕ) (count mask : ℕ) (flags : List Bool) (left k : ℕ) : Type 0 where
   pub within : k ≤ count
   pub size : length flags ≡ mostJobs

@@ -10,7 +10,7 @@ use Rattle.model.specs.Lists.{All}
 use Rattle.model.specs.Timetable.{isEither, Met}
 use Rattle.model.specs.FreeOrder.{LeastDeadline}
 use Rattle.model.specs.Recurrence.{Cell, empty, cell, jobsInAwayOrder, base}
-use Rattle.model.specs.Positions.{noJob, places, digits, marked}
+use Rattle.model.specs.Positions.{noJob, positions, digits, marked}
 use Rattle.table.specs.declared.refusal.Refusal.the-variants.{None}
 use Rattle.table.specs.Limits.{mostJobs, largestTime}
 use Rattle.table.specs.Refusals.{refusalSays}
@@ -33,8 +33,8 @@ jobsAt js is = map (λ (i : ℕ). getD js i noJob) is
 abbrev pub preparedOf : List Job → Prepared
 preparedOf js =
     record {
-      count = length (places js);
-      places = places js ++ replicate (mostJobs - length (places js)) 0;
+      count = length (positions js);
+      positions = positions js ++ replicate (mostJobs - length (positions js)) 0;
       jobs = jobsInAwayOrder js ++ replicate (mostJobs - length (jobsInAwayOrder js)) noJob;
       base = base js;
     }
@@ -57,7 +57,7 @@ bestMaskOf (cell a m) = Mask m
 
 -- a flag for each position: whether the choice that the mask stands for has the job there away
 abbrev pub flagsOf : List Job → ℕ → List Bool
-flagsOf js m = marked (places js) (digits (length (places js)) m) (replicate mostJobs false)
+flagsOf js m = marked (positions js) (digits (length (positions js)) m) (replicate mostJobs false)
 
 -- what is said is whether P holds
 pub record SaysWhether (said : Bool) (P : Type 0) : Type 0 where

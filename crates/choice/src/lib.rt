@@ -18,7 +18,7 @@ ghost use Rattle.choice.specs.Choices.{preparedOf, Ready, flagsOf, bestM
 // The either jobs in away order and their positions in the table, and the local times of the here-only jobs in all.
 pub struct Prepared {
     pub count: usize,
-    pub places: [usize; Table::MOST_JOBS],
+    pub positions: [usize; Table::MOST_JOBS],
     pub jobs: [Job; Table::MOST_JOBS],
     pub base: u32,
 }
@@ -62,11 +62,11 @@ fn base_of(jobs: [Job; Table::MOST_JOBS], count: usize) -> u32
 // The jobs at the first `count` positions; the entries that none has hold a job of no time.
 fn jobs_at(
     jobs: [Job; Table::MOST_JOBS],
-    places: [usize; Table::MOST_JOBS],
+    positions: [usize; Table::MOST_JOBS],
     count: usize,
 ) -> [Job; Table::MOST_JOBS]
-    requires { ⌜ (count ≤ mostJobs) × ((k : ℕ) → k < count → getD places k 0 < mostJobs) ⌝ }
-    ensures { λ r. ⌜ r ≡ jobsAt jobs (take count places) ++ replicate (mostJobs - count) noJob ⌝ }
+    requires { ⌜ (count ≤ mostJobs) × ((k : ℕ) → k < count → getD positions k 0 < mostJobs) ⌝ }
+    ensures { λ r. ⌜ r ≡ jobsAt jobs (take count positions) ++ replicate (mostJobs - count) noJob ⌝ }
 {
     let none = Job {
         id: 0,
@@ -75,8 +75,8 @@ fn jobs_at(
     };
     let mut ordered = [none; Table::MOST_JOBS];
     for k in 0..count {
-        let place = places[k];
-        ordered[k] = jobs[place];
+        let position = positions[k];
+        ordered[k] = jobs[position];
     }
     ordered
 }
@@ -88,11 +88,11 @@ pub fn prepare(t: Table) -> Prepared
 {
     let jobs = t.jobs;
     let order = order::away_order(jobs, t.count);
-    let places = order.places;
+    let positions = order.positions;
     Prepared {
         count: order.count,
-        places,
-        jobs: jobs_at(jobs, places, order.count),
+        positions,
+        jobs: jobs_at(jobs, positions, order.count),
         base: base_of(jobs, t.count),
     }
 }
@@ -117,12 +117,12 @@ pub fn flags_of(p: Prepared, mask: u32) -> [bool; Table::MOST_JOBS]
     ensures { λ r. ⌜ ((js : List Job) → p ≡ preparedOf js → r ≡ flagsOf js mask) ⌝ }
 {
     let count = p.count;
-    let places = p.places;
+    let positions = p.positions;
     let mut flags = [false; Table::MOST_JOBS];
     let mut left = mask;
     for k in 0..count {
-        let place = places[k];
-        flags[place] = left % 2 == 1;
+        let position = positions[k];
+        flags[position] = left % 2 == 1;
         left = left / 2;
     }
     flags

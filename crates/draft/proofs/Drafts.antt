@@ -7,12 +7,12 @@ use Prim.Native.Nat.{ℕ, _+_, _*_, _≤_, _<_}
 use native.Mathlib.Omega.{arith}
 use native.Mathlib.Numerals.{add-one}
 use lib.ListN.{length, getD, take, length-append}
-use lib.Seq.{take-suc}
+use lib.Seq.{take-suc, take-all}
 use Rattle.model.specs.Lists.{All, filter}
 use Rattle.model.specs.Timetable.{Chosen, span}
 use Rattle.model.specs.Laying.{mostBusy}
 use Rattle.model.specs.FreeOrder.{busy}
-use Rattle.model.proofs.Lists.{all-filter, all-take, take-all, filter-take}
+use Rattle.model.proofs.Lists.{all-filter, all-take, filter-take}
 use Rattle.model.proofs.Permutations.{total-append}
 use Rattle.model.proofs.Workable.{filter-append}
 use Rattle.model.proofs.Bounds.{spans-short}
@@ -50,7 +50,7 @@ module _ (f : Chosen → Bool) (front cs : List Chosen) where
   listing-begin draft e = record { within = omega arith; held = e ∙ ap draftOf (sym (append-nil front)) }
 
   pub listing-end : (draft : Draft) (i : ℕ) → length cs ≤ i → Listing draft i → draft ≡ draftOf (front ++ filter f cs)
-  listing-end draft i h l = l .held ∙ ap (λ (ds : List Chosen). draftOf (front ++ filter f ds)) (take-all cs i h)
+  listing-end draft i h l = l .held ∙ ap (λ (ds : List Chosen). draftOf (front ++ filter f ds)) (take-all i cs h)
 
   -- one more of them
   grown : (i : ℕ) (d : Chosen) → i < length cs → filter f (take (i + 1) cs) ≡ filter f (take i cs) ++ filter f (getD cs i d ∷ [])

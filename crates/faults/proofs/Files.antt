@@ -19,7 +19,7 @@ use Rattle.table.specs.declared.refusal.Refusal.the-variants.{Range, Many, Afte
 use Rattle.table.specs.declared.kind.Meaning.{Meaning}
 use Rattle.table.specs.Limits.{mostJobs}
 use Rattle.table.specs.Refusals.{past, refused}
-use Rattle.table.specs.Records.{formOf, judged, Entry, one, last, bad, listFrom}
+use Rattle.table.specs.Records.{formOf, judged, Parsed, one, last, bad, listFrom}
 use Rattle.table.proofs.Records as records
 use Rattle.table.proofs.Listed.{used-member, flat-more, list-step, over, overAll, readOn, good-read}
 use Rattle.table.proofs.ReadBack.{kind-byte, long}
@@ -196,7 +196,7 @@ behind-all bytesOf any rs (x ∷ xs) =
 -- A list with a fault is refused for it, where the reader of one record refuses for what is wrong with the record, and reads what is not.
 module _
     {A : Type 0} (idOf : A → ℕ) (bytesOf : A → List ℕ) (InRange : A → Type 0) (kinds : List (ℕ × ℕ)) (end : ℕ) (s : List ℕ)
-    (entryAt : Place → ℕ → Entry A) (any : (x : A) → 1 ≤ length (bytesOf x))
+    (entryAt : Place → ℕ → Parsed A) (any : (x : A) → 1 ≤ length (bytesOf x))
     (is-unread : (p : Place) (n : ℕ) (rest : List ℕ) (f : Refusal) → Unread kinds p rest f → drop (p .at) s ≡ rest → entryAt p n ≡ bad f)
     (is-many : (p : Place) (n : ℕ) (x : A) (more : List ℕ) → drop (p .at) s ≡ bytesOf x ++ more → mostJobs ≤ n → entryAt p n ≡ bad (Many p))
     (is-range :

@@ -22,7 +22,7 @@ use Rattle.table.specs.Records.{formOf, stepOnly, bad}
 use Rattle.table.proofs.Records.{stepByte, form-all}
 use Rattle.plan.specs.declared.Step.{Step}
 use Rattle.plan.specs.declared.RecordRead.the-variants.{RecordRefused}
-use Rattle.plan.specs.Plans.{stepBody, recordAt, stepEntry, stepId, readPlan, stepBytes}
+use Rattle.plan.specs.Plans.{stepBody, recordAt, stepParsed, stepId, readPlan, stepBytes}
 use Rattle.plan.proofs.Steps.{planEntry}
 use Rattle.plan.proofs.Plans.{plan-flat, opens, step-back, end-back, plan-back}
 use Rattle.faults.specs.Faults.{stepKinds, Unread, NoTimes, GoodPlan, PlanFault, PlanIs}
@@ -64,14 +64,14 @@ these = ((HereStep, refl, refl), ((AwayStep, refl, refl), ((EndStep, refl, refl)
 module _ (s : List ℕ) (p : Place) (n : ℕ) where
   is-unread : (rest : List ℕ) (f : Refusal) → Unread stepKinds p rest f → drop (p .at) s ≡ rest → planEntry s p n ≡ bad f
   unfolding recordAt
-  is-unread rest f u e = ap stepEntry (unread-refused RecordRefused (stepBody s p n) stepOnly stepKinds others these s p u e)
+  is-unread rest f u e = ap stepParsed (unread-refused RecordRefused (stepBody s p n) stepOnly stepKinds others these s p u e)
 
   is-many : (x : Step) (more : List ℕ) → drop (p .at) s ≡ stepBytes x ++ more → mostJobs ≤ n → planEntry s p n ≡ bad (Many p)
   is-many x more e h = go (x .away) e
     where
       go : (away : Bool) → drop (p .at) s ≡ cond away 0x21 0x20 ∷ x .id ∷ more → planEntry s p n ≡ bad (Many p)
-      go true b = ap stepEntry (opens s p n AwayStep (x .id ∷ more) b (omega arith)) ∙ simp (le-ltb n mostJobs h)
-      go false b = ap stepEntry (opens s p n HereStep (x .id ∷ more) b (omega arith)) ∙ simp (le-ltb n mostJobs h)
+      go true b = ap stepParsed (opens s p n AwayStep (x .id ∷ more) b (omega arith)) ∙ simp (le-ltb n mostJobs h)
+      go false b = ap stepParsed (opens s p n HereStep (x .id ∷ more) b (omega arith)) ∙ simp (le-ltb n mostJobs h)
 
 -- every byte string is a plan's or has a fault
 pub plan-or-fault : (s : List ℕ) → (o : Outcome (List Step)) × PlanIs s o

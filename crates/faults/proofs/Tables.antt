@@ -27,10 +27,11 @@ use Rattle.table.specs.declared.JobRead.the-variants.{JobRefused}
 use Rattle.table.specs.Limits.{mostJobs, largestTime}
 use Rattle.table.specs.Refusals.{start, past, Outcome, accepted, refused}
 use Rattle.table.specs.Records.{formOf, frameOnly, rowOnly, bad}
-use Rattle.table.specs.Tables.{JobTable, TimesOk, timeOk, deadlineAt, frameAt, rowBody, jobAt, jobEntry, jobId, jobsRead, afterFrame, withDeadline, readTable}
+use Rattle.table.specs.Tables.{JobTable, TimesOk, timeOk, deadlineAt, frameAt, rowBody, jobAt, jobParsed, jobId, jobsRead, afterFrame, withDeadline, readTable}
 use Rattle.table.specs.Tables.{sendingBytes, jobBytes, tableBytes}
 use Rattle.table.proofs.Records.{rowByte, form-all, frame-form, opened}
-use Rattle.table.proofs.Tables.{both, rowEntry}
+use Rattle.model.proofs.Tests.{both}
+use Rattle.table.proofs.Tables.{rowParsed}
 use Rattle.table.proofs.Written.{jobs-flat}
 use Rattle.table.proofs.ReadBack.{row-open, job-any, job-back, end-back, bytes-read}
 use Rattle.faults.specs.Faults.{Byte, joined, behind, frameKinds, rowKinds, Unread, ListFault, fault, GoodList, DeadlineOk, frameBytes}
@@ -146,17 +147,17 @@ fails true h out = absurd (out (h .0 refl))
 fails false h out = refl
 
 module _ (s : List ℕ) (p : Place) (n : ℕ) where
-  is-unread : (rest : List ℕ) (f : Refusal) → Unread rowKinds p rest f → drop (p .at) s ≡ rest → rowEntry s p n ≡ bad f
+  is-unread : (rest : List ℕ) (f : Refusal) → Unread rowKinds p rest f → drop (p .at) s ≡ rest → rowParsed s p n ≡ bad f
   unfolding jobAt
-  is-unread rest f u e = ap jobEntry (unread-refused JobRefused (rowBody s p n) rowOnly rowKinds row-others row-these s p u e)
+  is-unread rest f u e = ap jobParsed (unread-refused JobRefused (rowBody s p n) rowOnly rowKinds row-others row-these s p u e)
 
-  is-many : (id C : ℕ) (d : Sending) (more : List ℕ) → drop (p .at) s ≡ sendingBytes id C d ++ more → mostJobs ≤ n → rowEntry s p n ≡ bad (Many p)
+  is-many : (id C : ℕ) (d : Sending) (more : List ℕ) → drop (p .at) s ≡ sendingBytes id C d ++ more → mostJobs ≤ n → rowParsed s p n ≡ bad (Many p)
   is-many id C HereOnly more e h = row-open s p _ e n HereRow refl (omega arith) ∙ simp (le-ltb n mostJobs h)
   is-many id C (Either S I) more e h = row-open s p _ e n EitherRow refl (omega arith) ∙ simp (le-ltb n mostJobs h)
 
   is-range :
       (id C : ℕ) (d : Sending) (more : List ℕ) → drop (p .at) s ≡ sendingBytes id C d ++ more → n < mostJobs → fine C d ≡ false →
-      rowEntry s p n ≡ bad (Range p)
+      rowParsed s p n ≡ bad (Range p)
   is-range id C HereOnly more e h out =
       let l = sendingBytes id C HereOnly ++ more in
       row-open s p l e n HereRow refl (omega arith) ∙ simp (lt-ltb n mostJobs h, two-from s (p .at) l e 2, two-whole C, out)
@@ -234,7 +235,7 @@ fault-read {s} {f} (in-row D ok y) =
     ap (λ (l : List ℕ). frameAt l start) (more .1) ∙ (frame-reads D (more .0) ∙ rw (deadline-iff D .1 ok)) in
     let jobs : jobsRead s (past start 2) ≡ refused f =
     rw (← next-place D)
-    (fault-refused jobId jobBytes (TimesOk largestTime) rowKinds 0x1F s (rowEntry s) job-any
+    (fault-refused jobId jobBytes (TimesOk largestTime) rowKinds 0x1F s (rowParsed s) job-any
     (is-unread s) (λ p n j m e h. is-many s p n (j .id) (j .local) (j .sending) m e h)
     (λ p n j m e h out. is-range s p n (j .id) (j .local) (j .sending) m e h (fails _ (fine-iff (j .id) (j .local) (j .sending)) out))
     (λ p n j m e h ok. job-back s p n m (j .id) (j .local) (j .sending) e ok h) (end-back s) y refl) in

@@ -26,7 +26,7 @@ use Rattle.plan.specs.Plans.{stepId, noStep, stepAt, readPlan, stepOf}
 use Rattle.plan.proofs.Plans.{accepted-plan, step-at}
 use Rattle.judge.specs.declared.Checked.the-variants.{Passes, Fails}
 use Rattle.judge.specs.Check.{listed, lacksOne, timed, afterListed, afterPlan}
-use Rattle.judge.proofs.Jobs.{Lists, listed-tells, all-or-left}
+use Rattle.judge.proofs.Jobs.{ListedAs, listed-tells, all-or-left}
 use Rattle.frame_begin.specs.Begin.{stepsIn}
 
 -- ---- elements by position
@@ -64,7 +64,7 @@ job-for (x ∷ js) id j e = step (eqb (x .id) id) refl e (job-for js id j)
     step true q e on = record { at = 0; inside = omega arith; same-id = eqb-true (x .id) id q }
     step false q e on = let r = on e in record { at = suc (r .at); inside = omega (arith, r .inside); same-id = r .same-id }
 
-pub record Passed (t : JobTable) (xs : List plan.Step) : Type 0 where
+pub record PlanFits (t : JobTable) (xs : List plan.Step) : Type 0 where
   pub good : GoodTable t
   pub enough : length (t .jobs) ≡ length xs
   pub whole : lacksOne (t .jobs) (map stepId xs) ≡ false
@@ -76,7 +76,7 @@ module _ (t : JobTable) (good : GoodTable t) (s : List ℕ) (xs : List plan.Step
   abbrev js : List Job
   js = t .jobs
 
-  enough-of : (cs : List Chosen) → Lists js xs cs → lacksOne js (map stepId xs) ≡ false → length js ≡ length xs
+  enough-of : (cs : List Chosen) → ListedAs js xs cs → lacksOne js (map stepId xs) ≡ false → length js ≡ length xs
   enough-of cs l e =
       let counted : length xs ≡ length cs = ap length (sym (l .steps)) ∙ length-map cs stepOf in
       elim (all-or-left js cs (good .distinct) (rw (l .steps) (accepted-plan s xs read .1)) (l .named)) [
@@ -84,13 +84,13 @@ module _ (t : JobTable) (good : GoodTable t) (s : List ℕ) (xs : List plan.Step
         | inr lacks ↦ let z : lacksOne js (map stepId xs) ≡ true = rw (← l .steps) (lacks .1) in clash (cc)
       ]
 
-  named-of : (cs : List Chosen) → Lists js xs cs → All (λ (x : plan.Step). JobFor js (x .id)) xs
+  named-of : (cs : List Chosen) → ListedAs js xs cs → All (λ (x : plan.Step). JobFor js (x .id)) xs
   named-of cs l =
       rw (← l .steps) (map-all stepOf (λ (x : plan.Step). JobFor js (x .id)) cs (all-map (λ c e. job-for js (c .job .id) (c .job) e) cs (l .named)))
 
   passed-of :
-      (cs : List Chosen) → Lists js xs cs → (b : Bool) → lacksOne js (map stepId xs) ≡ b →
-      cond b (Fails Left) (timed (t .deadline) cs) ≡ Passes last busy → Passed t xs
+      (cs : List Chosen) → ListedAs js xs cs → (b : Bool) → lacksOne js (map stepId xs) ≡ b →
+      cond b (Fails Left) (timed (t .deadline) cs) ≡ Passes last busy → PlanFits t xs
   passed-of cs l true e p = clash (cc)
   passed-of cs l false e p = record {
     good = good;
@@ -101,15 +101,15 @@ module _ (t : JobTable) (good : GoodTable t) (s : List ℕ) (xs : List plan.Step
     jobs-differ = λ i k h b. pairwise-at noJob (λ (x y : Job). ¬ (x .id ≡ y .id)) js (good .distinct) i k h b;
   }
 
-  passed-listed : (o : Outcome (List Chosen)) → listed js xs ≡ o → afterListed t xs o ≡ Passes last busy → Passed t xs
+  passed-listed : (o : Outcome (List Chosen)) → listed js xs ≡ o → afterListed t xs o ≡ Passes last busy → PlanFits t xs
   passed-listed (refused r) e p = clash (cc)
   passed-listed (accepted cs) e p = passed-of cs (listed-tells js xs cs e) (lacksOne js (map stepId xs)) refl p
 
 passed-read :
     (t : JobTable) → GoodTable t → (s : List ℕ) (last busy : ℕ) (o : Outcome (List plan.Step)) → readPlan s ≡ o → afterPlan t o ≡ Passes last busy →
-    Passed t (stepsIn o)
+    PlanFits t (stepsIn o)
 passed-read t good s last busy (refused r) e p = clash (cc)
 passed-read t good s last busy (accepted xs) e p = passed-listed t good s xs e last busy (listed (t .jobs) xs) refl p
 
-pub passed : (t : JobTable) → GoodTable t → (s : List ℕ) (last busy : ℕ) → afterPlan t (readPlan s) ≡ Passes last busy → Passed t (stepsIn (readPlan s))
+pub passed : (t : JobTable) → GoodTable t → (s : List ℕ) (last busy : ℕ) → afterPlan t (readPlan s) ≡ Passes last busy → PlanFits t (stepsIn (readPlan s))
 passed t good s last busy p = passed-read t good s last busy (readPlan s) refl p

@@ -40,12 +40,12 @@ module _ {A : Type 0} (d : A) (g : ℕ → A) where
   filled (suc k) = set (filled k) k (g k)
 
 -- whether the plan sends a job away: the choice of the step, of the first n, that has its id
-abbrev pub awayAt : List plan.Step → Found → Bool
-awayAt xs (At k) = (getD xs k noStep) .away
-awayAt xs Nowhere = false
+abbrev pub awayOf : List plan.Step → Found → Bool
+awayOf xs (At k) = (getD xs k noStep) .away
+awayOf xs Nowhere = false
 
 unfoldable pub awayIn : List plan.Step → ℕ → ℕ → Bool
-awayIn xs n id = awayAt xs (first stepId noStep xs id 0 n)
+awayIn xs n id = awayOf xs (first stepId noStep xs id 0 n)
 
 -- "no values": the i-th job of the table waits
 abbrev pub entryOf : List plan.Step → ℕ → Job → Entry
@@ -55,11 +55,11 @@ unfoldable pub entriesOf : List Job → List plan.Step → ℕ → List Entry
 entriesOf js xs n = filled none (λ (i : ℕ). entryOf xs n (getD js i noJob)) n
 
 -- the position in the table of the k-th step's job
-abbrev pub stepPlace : List Job → List plan.Step → ℕ → ℕ
-stepPlace js xs k = indexed (positionOf js ((getD xs k noStep) .id))
+abbrev pub stepPosition : List Job → List plan.Step → ℕ → ℕ
+stepPosition js xs k = indexed (positionOf js ((getD xs k noStep) .id))
 
-unfoldable pub placesOf : List Job → List plan.Step → ℕ → List ℕ
-placesOf js xs n = filled 0 (stepPlace js xs) n
+unfoldable pub positionsOf : List Job → List plan.Step → ℕ → List ℕ
+positionsOf js xs n = filled 0 (stepPosition js xs) n
 
 -- the record of a frame that opens
 abbrev pub opened : ℕ → ℕ → ℕ → List ℕ → List Entry → Frame
@@ -77,7 +77,7 @@ opened number deadline count order es = record {
 unfoldable pub begun : ℕ → JobTable → List plan.Step → Frame
 begun number t xs =
     let es = entriesOf (t .jobs) xs (length (t .jobs)) in
-    opened number (t .deadline) (length (t .jobs)) (placesOf (t .jobs) xs (length (t .jobs))) es
+    opened number (t .deadline) (length (t .jobs)) (positionsOf (t .jobs) xs (length (t .jobs))) es
 
 -- "the check's refusals; NUMBER (never from idle)", which is "frame number not above the last one begun"
 abbrev pub mayOpen : Frame → ℕ → Bool

@@ -19,7 +19,7 @@ ghost use Rattle.table.specs.Tables.{Sound, jobTable};
 ghost use Rattle.plan.specs.Plans.{stepId, noStep, readPlan};
 ghost use Rattle.lookup.specs.Lookup.{first};
 ghost use Rattle.frame_record.specs.Answers.{done};
-ghost use Rattle.frame_begin.specs.Begin.{stepsIn, awayIn, entriesOf, placesOf, begun, mayOpen, beginRead, beginStep};
+ghost use Rattle.frame_begin.specs.Begin.{stepsIn, awayIn, entriesOf, positionsOf, begun, mayOpen, beginRead, beginStep};
 
 // Which of the first `count` steps of a plan has an id.
 fn step_of(plan: &[u8], count: usize, id: u8) -> Found
@@ -78,9 +78,9 @@ fn entries_of(t: Table, plan: &[u8]) -> [Entry; Table::MOST_JOBS]
 }
 
 // The table positions of a plan's jobs, in plan order.
-fn places_of(t: Table, plan: &[u8]) -> [usize; Table::MOST_JOBS]
+fn positions_of(t: Table, plan: &[u8]) -> [usize; Table::MOST_JOBS]
     requires { ⌜ (t .count ≤ mostJobs) × (t .count ≤ length (stepsIn (readPlan (now plan)))) ⌝ }
-    ensures { λ r. ⌜ r ≡ placesOf (take (t .count) (t .jobs)) (stepsIn (readPlan (now (plan .entry)))) (t .count) ⌝ }
+    ensures { λ r. ⌜ r ≡ positionsOf (take (t .count) (t .jobs)) (stepsIn (readPlan (now (plan .entry)))) (t .count) ⌝ }
 {
     let index = lookup::index_of(t);
     let mut order = [0; Table::MOST_JOBS];
@@ -99,7 +99,7 @@ fn opened_with(t: Table, plan: &[u8], number: u32) -> Called
     ensures { λ r. ⌜ r ≡ done (begun number (jobTable t) (stepsIn (readPlan (now (plan .entry))))) ⌝ }
 {
     let entries = entries_of(t, plan);
-    let order = places_of(t, plan);
+    let order = positions_of(t, plan);
     Called {
         answer: Answer::Done,
         frame: Frame {

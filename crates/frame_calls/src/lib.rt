@@ -104,7 +104,7 @@ pub fn read(f: Frame, id: u8) -> Answer
     if !f.is_in(false, true, true) {
         return Answer::Refused(Refusal::Phase);
     }
-    let found = f.place_of(id);
+    let found = f.position_of(id);
     match found {
         Found::At(i) => {
             let e = f.entries[i];

@@ -16,12 +16,12 @@ use Rattle.table.specs.Records.{used}
 use Rattle.table.specs.Tables.{JobTable}
 use Rattle.plan.specs.declared.Step as plan
 use Rattle.plan.specs.Plans.{stepId, noStep}
-use Rattle.frame_record.specs.Sound.{entryAt, placeAt, entryId, open?}
+use Rattle.frame_record.specs.Sound.{entryAt, positionAt, entryId, open?}
 use Rattle.frame_record.specs.Listed.{MayStand, planEntry}
-use Rattle.frame_record.specs.Sound.{panelPlace, panelEntry}
+use Rattle.frame_record.specs.Sound.{panelPosition, panelEntry}
 use Rattle.frame_reports.specs.Reports.{judge, standing, moved}
 use Rattle.frame_calls.specs.Calls as calls
-use Rattle.frame_begin.specs.Begin.{awayIn, awayAt, entriesOf, placesOf, begun}
+use Rattle.frame_begin.specs.Begin.{awayIn, awayOf, entriesOf, positionsOf, begun}
 use Rattle.frame_record.specs.declared.Phase.the-variants.{Idle, Open, Closed}
 use Rattle.frame_record.specs.declared.Standing.{Standing}
 use Rattle.frame_record.specs.declared.Standing.the-variants.{Waiting, Out, Held, Late}
@@ -29,9 +29,9 @@ use Rattle.frame_record.specs.declared.Entry.{Entry}
 use Rattle.frame_record.specs.declared.Frame.{Frame}
 use Rattle.frame_record.specs.declared.Event.the-variants as E
 use Rattle.lookup.proofs.Lookup.{first-found}
-use Rattle.frame_begin.proofs.Passed.{Passed}
+use Rattle.frame_begin.proofs.Passed.{PlanFits}
 use Rattle.frame_record.proofs.Sound.{open-parts}
-use Rattle.frame_promises.proofs.Reached.{Fine, moved-here, moved-other, moved-id, moved-away, entry-at, place-inside, has-id}
+use Rattle.frame_promises.proofs.Reached.{Fine, moved-here, moved-other, moved-id, moved-away, entry-at, position-inside, has-id}
 use Rattle.frame_promises.specs.History.{Report, Last, History, idle, opened, closed, since, reportOf, happens}
 use Rattle.frame_promises.proofs.Laws.{used-head, used-tail, without-gone, without-other, report-same, report-other}
 
@@ -133,8 +133,8 @@ module _ (f : Frame) (fine : Fine f) (o : open? f ≡ true) (b : Last) (a : Agre
         jobs = λ i h. ids i ∙ a .jobs i h;
         plan = a .plan;
         planned = a .planned;
-        steps = λ k h. ids (placeAt (f .order) k) ∙ a .steps k h;
-        choices = λ k h. moved-away f (open-parts f o) (fine .sized) at t next s inside (placeAt (f .order) k) ∙ a .choices k h;
+        steps = λ k h. ids (positionAt (f .order) k) ∙ a .steps k h;
+        choices = λ k h. moved-away f (open-parts f o) (fine .sized) at t next s inside (positionAt (f .order) k) ∙ a .choices k h;
         left = left;
         stands = λ i h. stands-now i h (eqb i at) refl;
         strangers = λ id none.
@@ -158,11 +158,11 @@ module _ (f : Frame) (fine : Fine f) (o : open? f ≡ true) (b : Last) (a : Agre
   -- ---- the job on the panel
 
   module _ (within : f .next < f .count) where
-    abbrev place : ℕ
-    place = panelPlace f
+    abbrev position : ℕ
+    position = panelPosition f
 
-    place-in : place < f .count
-    place-in = open-parts f o .places (f .next) within
+    position-in : position < f .count
+    position-in = open-parts f o .positions (f .next) within
 
     waiting : panelEntry f .standing ≡ Waiting
     waiting = unpassed (f .number) (f .next) (panelEntry f .away) (panelEntry f .standing) (open-parts f o .stands (f .next) within)
@@ -173,26 +173,26 @@ module _ (f : Frame) (fine : Fine f) (o : open? f ≡ true) (b : Last) (a : Agre
     pub silent : reportOf (b .reports) (panelEntry f .id) ≡ none
     silent =
         unheard-of (f .number) (f .deadline) panelOut (reportOf (b .reports) (panelEntry f .id)) (panelEntry f .standing) waiting
-        (a .stands place place-in)
+        (a .stands position position-in)
 
     not-out : panelOut ≡ false
-    not-out = rw (silent, waiting) at (a .stands place place-in)
+    not-out = rw (silent, waiting) at (a .stands position position-in)
 
     -- its span ends: it is out; it has its value
     pub goes-out :
         (t : ℕ) (xs : List plan.Step) → xs ≡ drop (f .next + 1) (a .plan) → (id : ℕ) → panelEntry f .id ≡ id →
-        Agrees (moved f place t (f .next + 1) Out) (since b t xs (id ∷ b .out) (b .reports))
+        Agrees (moved f position t (f .next + 1) Out) (since b t xs (id ∷ b .out) (b .reports))
     goes-out t xs left id is =
-        moves place place-in t (f .next + 1) Out xs (id ∷ b .out) (b .reports) left
+        moves position position-in t (f .next + 1) Out xs (id ∷ b .out) (b .reports) left
         (rw silent (used-head id (b .out) (panelEntry f .id) (sym is)))
         (λ j apart. refl) (λ j apart. used-tail id (b .out) j (λ e. apart (is ∙ e)))
 
     pub has-value :
         (t : ℕ) (v : Float) (xs : List plan.Step) → xs ≡ drop (f .next + 1) (a .plan) → (id : ℕ) → panelEntry f .id ≡ id →
-        Agrees (moved f place t (f .next + 1) (judge v (f .number) t (f .deadline)))
+        Agrees (moved f position t (f .next + 1) (judge v (f .number) t (f .deadline)))
         (since b t xs (b .out) (record { job = id; time = t; value = v } ∷ b .reports))
     has-value t v xs left id is =
-        hears place place-in t (f .next + 1) (judge v (f .number) t (f .deadline)) xs left id is v (b .out) (rw (← is) not-out) (λ j apart. refl) refl
+        hears position position-in t (f .next + 1) (judge v (f .number) t (f .deadline)) xs left id is v (b .out) (rw (← is) not-out) (λ j apart. refl) refl
 
   -- a job comes back
   pub comes-back :
@@ -222,7 +222,7 @@ module _ (f : Frame) (fine : Fine f) (o : open? f ≡ true) (b : Last) (a : Agre
 
 -- ---- a frame that opens
 
-module _ (number : ℕ) (t : JobTable) (xs : List plan.Step) (p : Passed t xs) where
+module _ (number : ℕ) (t : JobTable) (xs : List plan.Step) (p : PlanFits t xs) where
   abbrev N : ℕ
   N = length (t .jobs)
 
@@ -230,20 +230,20 @@ module _ (number : ℕ) (t : JobTable) (xs : List plan.Step) (p : Passed t xs) w
   es = entriesOf (t .jobs) xs N
 
   abbrev order : List ℕ
-  order = placesOf (t .jobs) xs N
+  order = positionsOf (t .jobs) xs N
 
   -- the plan's step of a job is found by its id
   sends : (k : ℕ) → k < N → awayIn xs N ((getD xs k noStep) .id) ≡ (getD xs k noStep) .away
   unfolding awayIn
   sends k h =
-      ap (awayAt xs)
+      ap (awayOf xs)
       (first-found stepId noStep xs ((getD xs k noStep) .id) 0 N k (omega arith) (omega arith) refl
       (λ i _ q. p .steps-differ i k q (omega (arith, p .enough))))
 
-  choice : (k : ℕ) → k < N → entryAt es (placeAt order k) .away ≡ (getD xs k noStep) .away
+  choice : (k : ℕ) → k < N → entryAt es (positionAt order k) .away ≡ (getD xs k noStep) .away
   choice k h =
-      let e = entry-at number t xs p (placeAt order k) (place-inside number t xs p k h) in
-      let id : (getD (t .jobs) (placeAt order k) noJob) .id ≡ (getD xs k noStep) .id = sym (ap entryId e) ∙ has-id number t xs p k h in
+      let e = entry-at number t xs p (positionAt order k) (position-inside number t xs p k h) in
+      let id : (getD (t .jobs) (positionAt order k) noJob) .id ≡ (getD xs k noStep) .id = sym (ap entryId e) ∙ has-id number t xs p k h in
       ap (λ (x : Entry). x .away) e ∙ ap (awayIn xs N) id ∙ sends k h
 
   pub begun-agrees : Agrees (begun number t xs) (record { number = number; table = t; to-come = xs; out = []; reports = []; clock = 0 })

@@ -16,7 +16,7 @@ use Rattle.judge.specs.declared.Checked.the-variants as checked
 use Rattle.judge.specs.Check.{checkedSays, checkPlan}
 use Rattle.frame_record.specs.Answers.{Reply, says}
 use Rattle.frame_promises.specs.Call.{begin}
-use Rattle.frame_record.proofs.Laws.{false-true}
+use Rattle.model.proofs.Tests.{false-true}
 use Rattle.frame_promises.specs.History.{Turn, Last, History, idle, opened, closed, done, refuse, begins, reply, isAccepted, history}
 use Rattle.frame_promises.specs.Runs.{FromIdle}
 use Rattle.frame_promises.specs.Own.{NotOpen, none-begun, was-closed, AboveLast, Passes, MayBegin}

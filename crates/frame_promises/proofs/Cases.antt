@@ -22,8 +22,8 @@ use Rattle.judge.specs.Check.{afterPlan}
 use Rattle.frame_record.specs.Finite.{finite?}
 use Rattle.frame_record.specs.Sound.{none, entryAt, entryId, open?, ready?}
 use Rattle.frame_record.specs.Answers.{refused, done}
-use Rattle.frame_record.specs.Sound.{whereIs, panelPlace, panelEntry}
-use Rattle.frame_reports.specs.Reports.{judge, moved, onPanel, spanAt, spanStep, backAt, backTo}
+use Rattle.frame_record.specs.Sound.{whereIs, panelPosition, panelEntry}
+use Rattle.frame_reports.specs.Reports.{judge, moved, onPanel, spanAt, spanStep, returnAt, backTo}
 use Rattle.frame_calls.specs.Calls.{asked}
 use Rattle.frame_reports.specs.Reports.{backStep}
 use Rattle.frame_calls.specs.Calls.{closed, closeStep, nextOf, readOf, eventStep}
@@ -39,8 +39,8 @@ use Rattle.frame_record.specs.declared.Event.{Event}
 use Rattle.frame_record.specs.declared.Event.the-variants as E
 use Rattle.frame_record.specs.declared.Called.{Called}
 use Rattle.lookup.proofs.Lookup.{first-below}
-use Rattle.frame_record.proofs.Laws.{and-left, either}
-use Rattle.frame_begin.proofs.Passed.{Passed, passed}
+use Rattle.model.proofs.Tests.{and-left, cond-all}
+use Rattle.frame_begin.proofs.Passed.{PlanFits, passed}
 
 module _ (f : Frame) (Q : Called → Type 0) where
   pub record Cases : Type 0 where
@@ -49,32 +49,32 @@ module _ (f : Frame) (Q : Called → Type 0) where
     -- the span of the job on the panel ends: it is out; it has its value, or is late
     pub goes-out :
         open? f ≡ true → f .next < f .count → panelEntry f .away ≡ true →
-        (t : ℕ) → Q (done (moved f (panelPlace f) t (f .next + 1) Out))
+        (t : ℕ) → Q (done (moved f (panelPosition f) t (f .next + 1) Out))
     pub has-value :
         open? f ≡ true → f .next < f .count → (t : ℕ) (v : Float) → finite? v ≡ true →
-        Q (done (moved f (panelPlace f) t (f .next + 1) (judge v (f .number) t (f .deadline))))
+        Q (done (moved f (panelPosition f) t (f .next + 1) (judge v (f .number) t (f .deadline))))
     pub comes-back :
         open? f ≡ true → (i : ℕ) → i < f .count → entryAt (f .entries) i .standing ≡ Out → (t : ℕ) (v : Float) → finite? v ≡ true →
         Q (done (moved f i t (f .next) (judge v (f .number) t (f .deadline))))
     pub closes : open? f ≡ true → (t : ℕ) → Q (done (closed f t))
-    pub begins : (n : ℕ) (t : JobTable) (xs : List plan.Step) → Passed t xs → Q (done (begun n t xs))
+    pub begins : (n : ℕ) (t : JobTable) (xs : List plan.Step) → PlanFits t xs → Q (done (begun n t xs))
 
   module _ (k : Cases) where
     span-at : open? f ≡ true → f .next < f .count → (t : ℕ) (v : Float) (away : Bool) → panelEntry f .away ≡ away → Q (spanAt f t v away)
     span-at o h t v true e = k .goes-out o h e t
-    span-at o h t v false e = either Q (finite? v) _ _ (λ num. k .has-value o h t v num) (λ _. k .refuses R.Value)
+    span-at o h t v false e = cond-all Q (finite? v) (λ num. k .has-value o h t v num) (λ _. k .refuses R.Value)
 
     span-end : (id t : ℕ) (v : Float) → Q (spanStep f id t v)
     unfolding spanStep
     span-end id t v =
-        either Q (open? f) _ _
-        (λ o. either Q (ltb t (f .clock)) _ _ (λ _. k .refuses R.Clock)
-        (λ _. either Q (onPanel f id) _ _ (λ on. span-at o (ltb-true _ _ (and-left _ _ on)) t v (panelEntry f .away) refl) (λ _. k .refuses R.Who)))
+        cond-all Q (open? f)
+        (λ o. cond-all Q (ltb t (f .clock)) (λ _. k .refuses R.Clock)
+        (λ _. cond-all Q (onPanel f id) (λ on. span-at o (ltb-true _ _ (and-left _ _ on)) t v (panelEntry f .away) refl) (λ _. k .refuses R.Who)))
         (λ _. k .refuses R.Phase)
 
-    back-at : open? f ≡ true → (i : ℕ) → i < f .count → (t : ℕ) (v : Float) (s : Standing) → entryAt (f .entries) i .standing ≡ s → Q (backAt f i t v s)
+    back-at : open? f ≡ true → (i : ℕ) → i < f .count → (t : ℕ) (v : Float) (s : Standing) → entryAt (f .entries) i .standing ≡ s → Q (returnAt f i t v s)
     back-at o i h t v Waiting e = k .refuses R.Who
-    back-at o i h t v Out e = either Q (finite? v) _ _ (λ num. k .comes-back o i h e t v num) (λ _. k .refuses R.Value)
+    back-at o i h t v Out e = cond-all Q (finite? v) (λ num. k .comes-back o i h e t v num) (λ _. k .refuses R.Value)
     back-at o i h t v (Held x) e = k .refuses R.Who
     back-at o i h t v Late e = k .refuses R.Who
 
@@ -87,24 +87,24 @@ module _ (f : Frame) (Q : Called → Type 0) where
     back : (n id t : ℕ) (v : Float) → Q (backStep f n id t v)
     unfolding backStep
     back n id t v =
-        either Q (open? f) _ _
-        (λ o. either Q (eqb n (f .number)) _ _
-        (λ _. either Q (ltb t (f .clock)) _ _ (λ _. k .refuses R.Clock) (λ _. back-to o id t v (whereIs f id) refl))
+        cond-all Q (open? f)
+        (λ o. cond-all Q (eqb n (f .number))
+        (λ _. cond-all Q (ltb t (f .clock)) (λ _. k .refuses R.Clock) (λ _. back-to o id t v (whereIs f id) refl))
         (λ _. k .refuses R.Number))
         (λ _. k .refuses R.Phase)
 
     close : (t : ℕ) → Q (closeStep f t)
     unfolding closeStep
     close t =
-        either Q (open? f) _ _
-        (λ o. either Q (ltb t (f .clock)) _ _ (λ _. k .refuses R.Clock)
-        (λ _. either Q (ltb t (f .deadline)) _ _ (λ _. k .refuses R.Early) (λ _. k .closes o t)))
+        cond-all Q (open? f)
+        (λ o. cond-all Q (ltb t (f .clock)) (λ _. k .refuses R.Clock)
+        (λ _. cond-all Q (ltb t (f .deadline)) (λ _. k .refuses R.Early) (λ _. k .closes o t)))
         (λ _. k .refuses R.Phase)
 
     checked : (n : ℕ) (s : List ℕ) (t : JobTable) (c : Checked) →
-        ((last busy : ℕ) → c ≡ Passes last busy → Passed t (stepsIn (readPlan s))) → Q (beginChecked f n (begun n t (stepsIn (readPlan s))) c)
+        ((last busy : ℕ) → c ≡ Passes last busy → PlanFits t (stepsIn (readPlan s))) → Q (beginChecked f n (begun n t (stepsIn (readPlan s))) c)
     checked n s t (Passes last busy) p =
-        either Q (mayOpen f n) _ _ (λ _. k .begins n t (stepsIn (readPlan s)) (p last busy refl)) (λ _. k .refuses R.Number)
+        cond-all Q (mayOpen f n) (λ _. k .begins n t (stepsIn (readPlan s)) (p last busy refl)) (λ _. k .refuses R.Number)
     checked n s t (Fails r) p = k .refuses r
 
     begin-read : (n : ℕ) (table s : List ℕ) (o : Outcome JobTable) → readTable table ≡ o → Q (beginRead f n s o)
@@ -113,7 +113,7 @@ module _ (f : Frame) (Q : Called → Type 0) where
 
     begins-with : (table s : List ℕ) (n : ℕ) → Q (beginStep f table s n)
     unfolding beginStep
-    begins-with table s n = either Q (ready? f) _ _ (λ _. begin-read n table s (readTable table) refl) (λ _. k .refuses R.Phase)
+    begins-with table s n = cond-all Q (ready? f) (λ _. begin-read n table s (readTable table) refl) (λ _. k .refuses R.Phase)
 
     any-event : (e : Event) → Q (eventStep f e)
     any-event E.Next = k .asks (nextOf f)

@@ -23,14 +23,14 @@ use Rattle.frame_record.specs.Finite.{finite?}
 use Rattle.frame_record.specs.Answers.{Reply}
 use Rattle.frame_promises.specs.Call.{event}
 use Rattle.frame_record.specs.declared.Event.the-variants as E
-use Rattle.frame_begin.proofs.Passed.{Passed}
+use Rattle.frame_begin.proofs.Passed.{PlanFits}
 use Rattle.frame_promises.specs.History.{Turn, Report, Last, History, idle, opened, closed, done, onClock, spanEnds, fresh, reads, reply}
 use Rattle.frame_promises.specs.History.{since, spanEnded, without, accepts, isAccepted, told, reportOf}
 use Rattle.frame_promises.specs.Own.{Doing, doingAt, idAt, awayAt, valueAt, spanTime, backTime, Quiet, asks-next, asks-read, asks-begin}
 use Rattle.frame_promises.specs.Own.{other-number, is-refused, spanCall, backCall}
 use Rattle.frame_promises.proofs.Laws.{used-head, used-tail, without-other, report-same, report-other, in-table}
 
-module _ (number : ℕ) (t : JobTable) (xs : List Step) (p : Passed t xs) (ds : List Doing)
+module _ (number : ℕ) (t : JobTable) (xs : List Step) (p : PlanFits t xs) (ds : List Doing)
     (counted : length xs ≡ length ds) (step-is : (k : ℕ) → getD xs k noStep ≡ stepOf ((doingAt ds k) .took .what)) where
   abbrev D : ℕ
   D = t .deadline

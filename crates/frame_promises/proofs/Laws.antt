@@ -17,7 +17,7 @@ use Rattle.table.proofs.Refusals.{says-numbered}
 use Rattle.lookup.specs.Lookup.{jobOf, withKey}
 use Rattle.frame_record.specs.Answers.{says}
 use Rattle.frame_promises.specs.Call.{Call}
-use Rattle.frame_record.proofs.Laws.{false-true}
+use Rattle.model.proofs.Tests.{false-true}
 use Rattle.frame_promises.specs.History.{Report, History, isAccepted, told, reportOf, without}
 
 -- a refused call is not accepted, and changes nothing

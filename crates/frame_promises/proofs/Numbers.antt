@@ -18,7 +18,7 @@ use Rattle.judge.specs.Check.{checkPlan}
 use Rattle.frame_promises.specs.Call.{Call, begin, event}
 use Rattle.frame_record.specs.declared.Event.{Event}
 use Rattle.frame_record.specs.declared.Event.the-variants as E
-use Rattle.frame_record.proofs.Laws.{false-true}
+use Rattle.model.proofs.Tests.{false-true}
 use Rattle.frame_promises.specs.History.{Turn, Last, History, idle, opened, closed, begins, spanEnded, happens, opens, accepts, isAccepted, told, reply}
 use Rattle.frame_promises.specs.Runs.{FromIdle}
 use Rattle.frame_promises.specs.Sequences.{numberOf, begunIn, Rising}

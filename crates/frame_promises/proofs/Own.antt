@@ -33,10 +33,10 @@ use Rattle.frame_record.specs.Answers.{Reply, says}
 use Rattle.frame_begin.specs.Begin.{stepsIn}
 use Rattle.frame_promises.specs.Call.{Call, begin, event}
 use Rattle.frame_record.specs.declared.Event.the-variants as E
-use Rattle.frame_begin.proofs.Passed.{Passed, passed}
+use Rattle.frame_begin.proofs.Passed.{PlanFits, passed}
 use Rattle.frame_promises.specs.History.{Turn, Last, History, idle, opened, closed, done, fresh, reply, accepts, isAccepted, told, history}
 use Rattle.frame_promises.specs.Runs.{FromIdle}
-use Rattle.frame_promises.specs.Own.{MayBegin, Planned, Doing, runOf, noDoing, doingAt, jobAt, idAt, valueAt, backTime, spanTime, spanCall, backCall}
+use Rattle.frame_promises.specs.Own.{MayBegin, PassingPlan, Doing, runOf, noDoing, doingAt, doneJob, idAt, valueAt, backTime, spanTime, spanCall, backCall}
 use Rattle.frame_promises.specs.Own.{Plays, over, quiet, spans, backs, AllDone, Answers, OwnValues, OnlyReads, EachOwn}
 use Rattle.frame_promises.proofs.Replies.{Replied, replied, reply-told}
 use Rattle.frame_promises.proofs.Begins.{begin-iff}
@@ -49,7 +49,7 @@ member-at (List·Memᴰ·tail m) = let r = member-at m in (suc (r .0), omega (ar
 
 -- ---- what it is to pass
 
-module _ {table plan : List ℕ} {t : JobTable} {cs : List Chosen} (w : Planned table plan t cs) (last busy-total : ℕ)
+module _ {table plan : List ℕ} {t : JobTable} {cs : List Chosen} (w : PassingPlan table plan t cs) (last busy-total : ℕ)
     (passes : checkedSays (checkPlan table plan) ≡ 0 ∷ last ∷ busy-total ∷ []) where
   is-pass : (k : Checked) → checkedSays k ≡ 0 ∷ last ∷ busy-total ∷ [] → k ≡ checked.Passes last busy-total
   is-pass (checked.Passes l b) e = let x : l ≡ last = cc in let y : b ≡ busy-total = cc in rw (x, y)
@@ -77,9 +77,9 @@ module _ {table plan : List ℕ} {t : JobTable} {cs : List Chosen} (w : Planned 
   unfolding checkPlan
   after-plan = rw read-table at (is-pass (checkPlan table plan) passes)
 
-  is-passed : Passed t (stepsFor cs)
+  is-passed : PlanFits t (stepsFor cs)
   is-passed =
-      subst (λ (o : Outcome (List Step)). Passed t (stepsIn o)) read-plan
+      subst (λ (o : Outcome (List Step)). PlanFits t (stepsIn o)) read-plan
       (passed t (accepted-good table t read-table) plan last busy-total after-plan)
 
   -- the jobs of a run are the plan's
@@ -97,7 +97,7 @@ module _ {table plan : List ℕ} {t : JobTable} {cs : List Chosen} (w : Planned 
         let chosen = List·getD-map what (runOf ds) k (noDoing .took) ∙ ap what took in
         rw (← xs) (List·getD-map stepOf (map what (runOf ds)) k noChoice ∙ ap stepOf chosen)
 
-    each-job : (j : Job) → List·Memᴰ j (t .jobs) → (k : ℕ) × (k < length ds) × (jobAt ds k ≡ j)
+    each-job : (j : Job) → List·Memᴰ j (t .jobs) → (k : ℕ) × (k < length ds) × (doneJob ds k ≡ j)
     each-job j m =
         let listed : List·Memᴰ j (map theJob cs) = member-all _ (perm-members (Permᴰ·symm (w .exactly .each))) m in
         let ran : List·Memᴰ j (map theJob (map what (runOf ds))) = subst (λ (l : List Chosen). List·Memᴰ j (map theJob l)) (sym (run .each)) listed in
@@ -133,7 +133,7 @@ only-reads b (u ∷ us) r = rw (step (u .call) (r .0 .1) (isAccepted (u .said)))
 
 -- ---- the frame's turns, one after the other
 
-module _ (number : ℕ) (t : JobTable) (xs : List Step) (p : Passed t xs) (ds : List Doing) (counted : length xs ≡ length ds)
+module _ (number : ℕ) (t : JobTable) (xs : List Step) (p : PlanFits t xs) (ds : List Doing) (counted : length xs ≡ length ds)
     (step-at : (k : ℕ) → getD xs k noStep ≡ stepOf ((doingAt ds k) .took .what))
     (fits : (k : ℕ) → k < length ds → backTime ds k ≤ t .deadline) (finite : (k : ℕ) → k < length ds → finite? (valueAt ds k) ≡ true) where
   abbrev Goes : ℕ → List ℕ → ℕ → Last → Type 0
@@ -227,7 +227,7 @@ after-begin before c us = history-append idle before (c ∷ us)
 
 -- the accepted begin opens the frame of its bytes
 begun-is :
-    {table plan : List ℕ} {t : JobTable} {cs : List Chosen} (w : Planned table plan t cs) (before : List Turn) (number : ℕ) (s : Reply) → s ≡ done →
+    {table plan : List ℕ} {t : JobTable} {cs : List Chosen} (w : PassingPlan table plan t cs) (before : List Turn) (number : ℕ) (s : Reply) → s ≡ done →
     told (history idle before) (begin table plan number) s ≡
     opened (record { number = number; table = t; to-come = stepsFor cs; out = []; reports = []; clock = 0 })
 begun-is {table} {plan} {t} {cs} w before number s e =
@@ -237,7 +237,7 @@ begun-is {table} {plan} {t} {cs} w before number s e =
 -- and the turns after the begin are the run's events in time order, with quiet turns between them. Then the begin is accepted, every event is
 -- accepted, and each job ends with its own value.
 pub own-value :
-    {table plan : List ℕ} {t : JobTable} {cs : List Chosen} → Planned table plan t cs →
+    {table plan : List ℕ} {t : JobTable} {cs : List Chosen} → PassingPlan table plan t cs →
     (before : List Turn) (number : ℕ) → MayBegin before table plan number →
     (ds : List Doing) → RunOf cs (runOf ds) → All (λ (d : Doing). finite? (d .value) ≡ true) ds →
     (s : Reply) {us : List Turn} (q : Plays number ds 0 [] 0 us) →

@@ -17,13 +17,13 @@ use Rattle.plan.specs.declared.Step as plan
 use Rattle.plan.specs.Plans.{noStep}
 use Rattle.frame_record.specs.Finite.{finite?}
 use Rattle.lookup.specs.Lookup.{positionOf, indexed}
-use Rattle.frame_record.specs.Sound.{none, entryAt, placeAt, entryId, sound?, open?}
+use Rattle.frame_record.specs.Sound.{none, entryAt, positionAt, entryId, sound?, open?}
 use Rattle.frame_record.specs.Listed.{MayStand, planEntry, Begun, SoundIn}
 use Rattle.frame_record.specs.Answers.{idle}
-use Rattle.frame_record.specs.Sound.{panelPlace, panelEntry}
+use Rattle.frame_record.specs.Sound.{panelPosition, panelEntry}
 use Rattle.frame_reports.specs.Reports.{judge, standing, moved}
 use Rattle.frame_calls.specs.Calls.{closed}
-use Rattle.frame_begin.specs.Begin.{entryOf, entriesOf, stepPlace, placesOf, begun}
+use Rattle.frame_begin.specs.Begin.{entryOf, entriesOf, stepPosition, positionsOf, begun}
 use Rattle.frame_promises.specs.Call.{Call, calledOf, after, reached}
 use Rattle.frame_record.specs.declared.Phase.{Phase}
 use Rattle.frame_record.specs.declared.Standing.{Standing}
@@ -33,7 +33,7 @@ use Rattle.frame_record.specs.declared.Frame.{Frame}
 use Rattle.lookup.specs.declared.Found.the-variants.{At}
 use Rattle.frame_record.specs.declared.Called.{Called}
 use Rattle.lookup.proofs.Lookup.{first-below, first-has, first-some}
-use Rattle.frame_begin.proofs.Passed.{Passed, JobFor}
+use Rattle.frame_begin.proofs.Passed.{PlanFits, JobFor}
 use Rattle.frame_begin.proofs.Filled.{filled-at, filled-length}
 use Rattle.frame_record.proofs.Sound.{sound-made, open-phase, open-parts}
 use Rattle.frame_promises.proofs.Cases.{every-call}
@@ -57,13 +57,13 @@ out-passed : (n k next : ℕ) (away : Bool) (s : Standing) → s ≡ Out → May
 out-passed n k next away s is h = (subst (MayStand n k next away) is h) .0
 
 module _ (f : Frame) (b : Begun f) where
-  -- two jobs of the plan that have one place in the table are one
-  pub same-place : (i k : ℕ) → i < f .count → k < f .count → placeAt (f .order) i ≡ placeAt (f .order) k → i ≡ k
-  same-place i k p q e = step (ltb i k) refl (ltb k i) refl
+  -- two jobs of the plan that have one position in the table are one
+  pub same-position : (i k : ℕ) → i < f .count → k < f .count → positionAt (f .order) i ≡ positionAt (f .order) k → i ≡ k
+  same-position i k p q e = step (ltb i k) refl (ltb k i) refl
     where
       step : (x : Bool) → ltb i k ≡ x → (y : Bool) → ltb k i ≡ y → i ≡ k
-      step true x y z = absurd (b .places-differ i k (ltb-true i k x) q e)
-      step false x true z = absurd (b .places-differ k i (ltb-true k i z) p (sym e))
+      step true x y z = absurd (b .positions-differ i k (ltb-true i k x) q e)
+      step false x true z = absurd (b .positions-differ k i (ltb-true k i z) p (sym e))
       step false x false z = omega (arith, ltb-false i k x, ltb-false k i z)
 
   module _ (sized : length (f .entries) ≡ 32) (at t next : ℕ) (s : Standing) (inside : at < f .count) where
@@ -91,17 +91,17 @@ module _ (f : Frame) (b : Begun f) where
 
     module _
         (up : next ≤ f .count)
-        (mine : (k : ℕ) → k < f .count → placeAt (f .order) k ≡ at → MayStand (f .number) k next (entryAt (f .entries) at .away) s)
+        (mine : (k : ℕ) → k < f .count → positionAt (f .order) k ≡ at → MayStand (f .number) k next (entryAt (f .entries) at .away) s)
         (others :
-        (k : ℕ) → k < f .count → (placeAt (f .order) k ≡ at → ⊥) →
+        (k : ℕ) → k < f .count → (positionAt (f .order) k ≡ at → ⊥) →
         (away : Bool) (x : Standing) → MayStand (f .number) k (f .next) away x → MayStand (f .number) k next away x) where
       stands-after :
-          (k : ℕ) → k < f .count → (w : Bool) → eqb (placeAt (f .order) k) at ≡ w →
-          MayStand (f .number) k next (entryAt new (placeAt (f .order) k) .away) (entryAt new (placeAt (f .order) k) .standing)
-      stands-after k h true is = let e = eqb-true (placeAt (f .order) k) at is in rw (e, moved-here) (mine k h e)
+          (k : ℕ) → k < f .count → (w : Bool) → eqb (positionAt (f .order) k) at ≡ w →
+          MayStand (f .number) k next (entryAt new (positionAt (f .order) k) .away) (entryAt new (positionAt (f .order) k) .standing)
+      stands-after k h true is = let e = eqb-true (positionAt (f .order) k) at is in rw (e, moved-here) (mine k h e)
       stands-after k h false is =
-          let other = eqb-false (placeAt (f .order) k) at is in
-          rw (moved-other (placeAt (f .order) k) other) (others k h other (planEntry f k .away) (planEntry f k .standing) (b .stands k h))
+          let other = eqb-false (positionAt (f .order) k) at is in
+          rw (moved-other (positionAt (f .order) k) other) (others k h other (planEntry f k .away) (planEntry f k .standing) (b .stands k h))
 
       pub moved-sound : Begun (moved f at t next s)
       moved-sound = record {
@@ -109,10 +109,10 @@ module _ (f : Frame) (b : Begun f) where
         reached = up;
         low = b .low;
         high = b .high;
-        places = b .places;
-        places-differ = b .places-differ;
+        positions = b .positions;
+        positions-differ = b .positions-differ;
         ids-differ = λ i k h q e. b .ids-differ i k h q (sym (moved-id i) ∙ e ∙ moved-id k);
-        stands = λ k h. stands-after k h (eqb (placeAt (f .order) k) at) refl;
+        stands = λ k h. stands-after k h (eqb (positionAt (f .order) k) at) refl;
       }
 
   pub closed-sound : (t : ℕ) → Begun (closed f t)
@@ -121,15 +121,15 @@ module _ (f : Frame) (b : Begun f) where
     reached = b .reached;
     low = b .low;
     high = b .high;
-    places = b .places;
-    places-differ = b .places-differ;
+    positions = b .positions;
+    positions-differ = b .positions-differ;
     ids-differ = b .ids-differ;
     stands = b .stands;
   }
 
 -- ---- a frame that opens
 
-module _ (n : ℕ) (t : JobTable) (xs : List plan.Step) (p : Passed t xs) where
+module _ (n : ℕ) (t : JobTable) (xs : List plan.Step) (p : PlanFits t xs) where
   abbrev js : List Job
   js = t .jobs
 
@@ -140,35 +140,35 @@ module _ (n : ℕ) (t : JobTable) (xs : List plan.Step) (p : Passed t xs) where
   es = entriesOf js xs count
 
   abbrev order : List ℕ
-  order = placesOf js xs count
+  order = positionsOf js xs count
 
   pub entry-at : (i : ℕ) → i < count → entryAt es i ≡ entryOf xs count (getD js i noJob)
   unfolding entriesOf
   entry-at i h = filled-at none (λ (k : ℕ). entryOf xs count (getD js k noJob)) count i (p .good .few) h
 
-  order-at : (k : ℕ) → k < count → placeAt order k ≡ stepPlace js xs k
-  unfolding placesOf
-  order-at k h = filled-at 0 (stepPlace js xs) count k (p .good .few) h
+  order-at : (k : ℕ) → k < count → positionAt order k ≡ stepPosition js xs k
+  unfolding positionsOf
+  order-at k h = filled-at 0 (stepPosition js xs) count k (p .good .few) h
 
   -- the k-th step's job is found where the order says
-  found-by : (k : ℕ) → k < count → (m : ℕ) → positionOf js ((getD xs k noStep) .id) ≡ At m → positionOf js ((getD xs k noStep) .id) ≡ At (placeAt order k)
+  found-by : (k : ℕ) → k < count → (m : ℕ) → positionOf js ((getD xs k noStep) .id) ≡ At m → positionOf js ((getD xs k noStep) .id) ≡ At (positionAt order k)
   found-by k h m e = e ∙ ap At (sym (order-at k h ∙ ap indexed e))
 
-  found-at : (k : ℕ) → k < count → positionOf js ((getD xs k noStep) .id) ≡ At (placeAt order k)
+  found-at : (k : ℕ) → k < count → positionOf js ((getD xs k noStep) .id) ≡ At (positionAt order k)
   found-at k h =
       let j : JobFor js ((getD xs k noStep) .id) = p .named k (omega (arith, p .enough)) in
       let m = first-some jobId noJob js ((getD xs k noStep) .id) 0 count (j .at) (omega arith) (omega (arith, j .inside)) (j .same-id) in
       found-by k h (m .0) (m .1)
 
-  pub place-inside : (k : ℕ) → k < count → placeAt order k < count
-  place-inside k h = omega (arith, first-below jobId noJob js ((getD xs k noStep) .id) 0 count (placeAt order k) (found-at k h))
+  pub position-inside : (k : ℕ) → k < count → positionAt order k < count
+  position-inside k h = omega (arith, first-below jobId noJob js ((getD xs k noStep) .id) 0 count (positionAt order k) (found-at k h))
 
-  pub has-id : (k : ℕ) → k < count → entryAt es (placeAt order k) .id ≡ (getD xs k noStep) .id
+  pub has-id : (k : ℕ) → k < count → entryAt es (positionAt order k) .id ≡ (getD xs k noStep) .id
   has-id k h =
-      ap entryId (entry-at (placeAt order k) (place-inside k h)) ∙
-      first-has jobId noJob js ((getD xs k noStep) .id) 0 count (placeAt order k) (found-at k h)
+      ap entryId (entry-at (positionAt order k) (position-inside k h)) ∙
+      first-has jobId noJob js ((getD xs k noStep) .id) 0 count (positionAt order k) (found-at k h)
 
-  same-step : (i k : ℕ) → i < k → k < count → placeAt order i ≡ placeAt order k → (getD xs i noStep) .id ≡ (getD xs k noStep) .id
+  same-step : (i k : ℕ) → i < k → k < count → positionAt order i ≡ positionAt order k → (getD xs i noStep) .id ≡ (getD xs k noStep) .id
   same-step i k h q e = sym (has-id i (omega arith)) ∙ ap (λ (m : ℕ). entryAt es m .id) e ∙ has-id k q
 
   same-job : (i k : ℕ) → i < k → k < count → entryAt es i .id ≡ entryAt es k .id → (getD js i noJob) .id ≡ (getD js k noJob) .id
@@ -181,10 +181,10 @@ module _ (n : ℕ) (t : JobTable) (xs : List plan.Step) (p : Passed t xs) where
     reached = omega arith;
     low = p .good .low;
     high = p .good .high;
-    places = place-inside;
-    places-differ = λ i k h q e. p .steps-differ i k h (omega (arith, p .enough)) (same-step i k h q e);
+    positions = position-inside;
+    positions-differ = λ i k h q e. p .steps-differ i k h (omega (arith, p .enough)) (same-step i k h q e);
     ids-differ = λ i k h q e. p .jobs-differ i k h q (same-job i k h q e);
-    stands = λ k h. rw (entry-at (placeAt order k) (place-inside k h)) (omega arith);
+    stands = λ k h. rw (entry-at (positionAt order k) (position-inside k h)) (omega arith);
   }
 
   begun-test : sound? (begun n t xs) ≡ true
@@ -219,12 +219,12 @@ module _ (f : Frame) (fine : Fine f) where
     span-fine :
         (t : ℕ) (s : Standing) → f .next < f .count →
         ((k : ℕ) → k < f .next + 1 → MayStand (f .number) k (f .next + 1) (panelEntry f .away) s) →
-        Fine (moved f (panelPlace f) t (f .next + 1) s)
+        Fine (moved f (panelPosition f) t (f .next + 1) s)
     span-fine t s h ok =
-        moved-fine (panelPlace f) t (f .next + 1) s
-        (moved-sound f b (fine .sized) (panelPlace f) t (f .next + 1) s (b .places (f .next) h) (omega arith)
-        (λ k q e. ok k (omega (arith, same-place f b k (f .next) q h e)))
-        (λ k q e. others-stand (f .number) k (f .next) (λ is. e (ap (placeAt (f .order)) is))))
+        moved-fine (panelPosition f) t (f .next + 1) s
+        (moved-sound f b (fine .sized) (panelPosition f) t (f .next + 1) s (b .positions (f .next) h) (omega arith)
+        (λ k q e. ok k (omega (arith, same-position f b k (f .next) q h e)))
+        (λ k q e. others-stand (f .number) k (f .next) (λ is. e (ap (positionAt (f .order)) is))))
 
     back-fine :
         (i : ℕ) → i < f .count → entryAt (f .entries) i .standing ≡ Out → (t : ℕ) (v : Float) → finite? v ≡ true →
@@ -235,7 +235,7 @@ module _ (f : Frame) (fine : Fine f) where
         (λ k q e. judge-stands (f .number) k (f .next) (entryAt (f .entries) i .away) v num (was-out k q e) (leb t (f .deadline)))
         (λ k q e away x w. w))
       where
-        was-out : (k : ℕ) → k < f .count → placeAt (f .order) k ≡ i → k < f .next
+        was-out : (k : ℕ) → k < f .count → positionAt (f .order) k ≡ i → k < f .next
         was-out k q e = out-passed (f .number) k (f .next) (planEntry f k .away) (planEntry f k .standing) (rw e out) (b .stands k q)
 
   pub call-fine : (c : Call) → FineAfter (calledOf c f)

@@ -26,7 +26,7 @@ use Rattle.frame_record.specs.Answers.{Reply, says}
 use Rattle.frame_promises.specs.Call.{Call, begin, event}
 use Rattle.frame_record.specs.declared.Event.{Event}
 use Rattle.frame_record.specs.declared.Event.the-variants as E
-use Rattle.frame_record.proofs.Laws.{false-true}
+use Rattle.model.proofs.Tests.{false-true}
 use Rattle.frame_promises.specs.History.{Turn, Report, Last, History, idle, opened, closed, refuse, begins, onClock, spanEnds, returns}
 use Rattle.frame_promises.specs.History.{reply}
 use Rattle.frame_promises.specs.History.{opens, since, spanEnded, happens, accepts, isAccepted, told, reportOf}

@@ -30,7 +30,7 @@ use Rattle.frame_record.specs.Sound as S
 use Rattle.frame_record.specs.Sound.{entryAt, entryId, open?, begun?, ready?}
 use Rattle.frame_record.specs.Answers.{Reply, says, answerSays, refused}
 use Rattle.frame_record.specs.Sound.{whereIs, panelEntry}
-use Rattle.frame_reports.specs.Reports.{judge, moved, spanAt, spanStep, backAt, backTo, backStep}
+use Rattle.frame_reports.specs.Reports.{judge, moved, spanAt, spanStep, returnAt, backTo, backStep}
 use Rattle.frame_calls.specs.Calls.{closeStep, readingOf, readAt, readOf, nextOf}
 use Rattle.frame_record.specs.Answers as answers
 use Rattle.frame_calls.specs.Calls as calls
@@ -49,8 +49,8 @@ use Rattle.frame_record.specs.declared.Event.{Event}
 use Rattle.frame_record.specs.declared.Event.the-variants as E
 use Rattle.frame_record.specs.declared.Called.{Called}
 use Rattle.lookup.proofs.Lookup.{first-below, first-has, first-some}
-use Rattle.frame_record.proofs.Laws.{false-true}
-use Rattle.frame_begin.proofs.Passed.{Passed, passed}
+use Rattle.model.proofs.Tests.{false-true}
+use Rattle.frame_begin.proofs.Passed.{PlanFits, passed}
 use Rattle.frame_promises.proofs.Reached.{Fine}
 use Rattle.frame_promises.specs.History.{Report, Last, History, idle, opened, closed, done, refuse, begins, nexts, onClock, valued, spanEnds}
 use Rattle.frame_promises.specs.History.{returns, closes, reading, reads, inOpen, inClosed, reply, opens, accepts, isAccepted, told}
@@ -225,7 +225,7 @@ module _ (f : Frame) (fine : Fine f) where
       -- one that is not out is refused WHO
       heard-of :
           (i : ℕ) (r : Report) (q : Bool) →
-          Fits B H (backAt f i t v (cond q (stands.Held (record { value = r .value; frame = f .number })) stands.Late)) (refuse 15)
+          Fits B H (returnAt f i t v (cond q (stands.Held (record { value = r .value; frame = f .number })) stands.Late)) (refuse 15)
       heard-of i r true = refuses B R.Who
       heard-of i r false = refuses B R.Who
 
@@ -234,14 +234,14 @@ module _ (f : Frame) (fine : Fine f) where
 
       back-at :
           (i : ℕ) → i < f .count → entryAt (f .entries) i .id ≡ id → (p : Option Report) (s : Standing) →
-          Stood (f .number) (f .deadline) (used (b .out) id) p s → Fits B H (backAt f i t v s) backReply
+          Stood (f .number) (f .deadline) (used (b .out) id) p s → Fits B H (returnAt f i t v s) backReply
       back-at i h named none stands.Waiting w = rw w (refuses B R.Who)
       back-at i h named none stands.Out w =
           rw w (same B H (finite? v) _ _ _ _ (λ _. taken i h named) (λ _. refuses B R.Value))
       back-at i h named none (stands.Held x) w = absurd w
       back-at i h named none stands.Late w = absurd w
       back-at i h named (some r) s w =
-          subst (λ (x : Standing). Fits B H (backAt f i t v x) backReply) (sym (w .0)) (rw (w .1) (heard-of i r (leb (r .time) (f .deadline))))
+          subst (λ (x : Standing). Fits B H (returnAt f i t v x) backReply) (sym (w .0)) (rw (w .1) (heard-of i r (leb (r .time) (f .deadline))))
 
       back-to : (w : Found) → whereIs f id ≡ w → Fits B H (backTo f t v w) backReply
       back-to (At i) e =
@@ -371,7 +371,7 @@ module _ (f : Frame) (fine : Fine f) where
     unfolding begun
     opened-by t e (accepted xs) q last busy ok =
         let pass = passed t (accepted-good table t e) s last busy (ap (afterPlan t) q ∙ ok) in
-        (refl, begun-agrees number t xs (subst (λ (z : Outcome (List plan.Step)). Passed t (stepsIn z)) q pass))
+        (refl, begun-agrees number t xs (subst (λ (z : Outcome (List plan.Step)). PlanFits t (stepsIn z)) q pass))
     opened-by t e (outcome.refused r) q last busy ok = clash (cc)
 
     begun-fits :

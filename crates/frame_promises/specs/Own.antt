@@ -51,7 +51,7 @@ pub record MayBegin (ts : List Turn) (table plan : List ℕ) (number : ℕ) : Ty
 -- ---- what the jobs of a plan do
 
 -- the bytes are the table t and a plan of exactly its jobs, with the choices cs
-pub record Planned (table plan : List ℕ) (t : JobTable) (cs : List Chosen) : Type 0 where
+pub record PassingPlan (table plan : List ℕ) (t : JobTable) (cs : List Chosen) : Type 0 where
   pub is-table : TableIs table (accepted t)
   pub is-plan : PlanIs plan (accepted (stepsFor cs))
   pub exactly : PlanOf (t .jobs) cs
@@ -72,11 +72,11 @@ noDoing = record { took = record { what = noChoice; spent = 0; waited = 0 }; val
 abbrev pub doingAt : List Doing → ℕ → Doing
 doingAt ds k = getD ds k noDoing
 
-abbrev pub jobAt : List Doing → ℕ → Job
-jobAt ds k = (doingAt ds k) .took .what .job
+abbrev pub doneJob : List Doing → ℕ → Job
+doneJob ds k = (doingAt ds k) .took .what .job
 
 abbrev pub idAt : List Doing → ℕ → ℕ
-idAt ds k = jobAt ds k .id
+idAt ds k = doneJob ds k .id
 
 abbrev pub awayAt : List Doing → ℕ → Bool
 awayAt ds k = (doingAt ds k) .took .what .away
@@ -107,7 +107,7 @@ pub data Quiet (number : ℕ) (t : Turn) : Type 0 where
   other-number : {n id time : ℕ} {v : Float} → t .call ≡ event (E.Return n id time v) → (n ≡ number → ⊥) → Quiet number t
   is-refused : isAccepted (t .said) ≡ false → Quiet number t
 
--- The turns by which a frame runs to its end: n spans have ended, the jobs at the places `home` of the plan are back, and t is the time of the
+-- The turns by which a frame runs to its end: n spans have ended, the jobs at the positions `home` of the plan are back, and t is the time of the
 -- last event. "In time order, stays in plan order, an answer after its job's stay."
 pub data Plays (number : ℕ) (ds : List Doing) : ℕ → List ℕ → ℕ → List Turn → Type 0 where
   -- every span has ended and every away job is back
@@ -154,7 +154,7 @@ OnlyReads = All (λ (t : Turn). (id : ℕ) × (t .call ≡ event (E.Read id)))
 -- "each job ends with its own value": every job of the table is one of the plan's, and all have their own values before the close and after
 -- it; the close is accepted at every time from the deadline on, as no event is later
 pub record EachOwn (number : ℕ) (t : JobTable) (ds : List Doing) (ts : List Turn) : Type 0 where
-  pub each : (j : Job) → List·Memᴰ j (t .jobs) → (k : ℕ) × (k < length ds) × (jobAt ds k ≡ j)
+  pub each : (j : Job) → List·Memᴰ j (t .jobs) → (k : ℕ) × (k < length ds) × (doneJob ds k ≡ j)
   pub open-reads : OwnValues number ds ts
   pub closes : (time : ℕ) → t .deadline ≤ time → Answers ts (event (E.Close time)) done
   pub closed-reads :

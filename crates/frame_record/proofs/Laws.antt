@@ -8,35 +8,14 @@ use mathlib.Core.Bool.{Bool, true, false, cond, _&&_}
 use borrow.Author.Tests.{leb-true, ltb-true}
 use Prim.Native.Nat.{ℕ, zero, suc, _+_, _-_, _<_, _≤_}
 use native.Mathlib.Omega.{arith}
+use Rattle.model.proofs.Tests.{and-left, and-right}
 use Rattle.lookup.specs.declared.Found.the-variants.{At}
 use Rattle.lookup.proofs.Lookup.{first-below}
-use Rattle.frame_record.specs.Sound.{none, placeAt, entryId, whereIs, okOrder, okAt, okFrom, okCounts, okDeadline, okBegun, okIn, phaseIn, isOpen}
+use Rattle.frame_record.specs.Sound.{none, positionAt, entryId, whereIs, okOrder, okAt, okFrom, okCounts, okDeadline, okBegun, okIn, phaseIn, isOpen}
 use Rattle.frame_record.specs.Sound.{sound?, open?, begun?, ready?}
 use Rattle.frame_record.specs.declared.Phase.{Phase}
 use Rattle.frame_record.specs.declared.Phase.the-variants.{Idle, Open, Closed}
 use Rattle.frame_record.specs.declared.Frame.{Frame}
-
-pub false-true : false ≡ true → ⊥
-false-true e = let z : _≡_ {A = ℕ} 0 1 = cc in omega arith
-
-pub and-left : (a b : Bool) → (a && b) ≡ true → a ≡ true
-and-left true b e = refl
-and-left false b e = e
-
-pub and-right : (a b : Bool) → (a && b) ≡ true → b ≡ true
-and-right true b e = e
-and-right false b e = absurd (false-true e)
-
-pub and-both : (a b : Bool) → a ≡ true → b ≡ true → (a && b) ≡ true
-and-both true true p q = refl
-and-both true false p q = q
-and-both false b p q = p
-
--- what holds of both results of a test holds of the one that is picked
-module _ {A : Type 0} (Q : A → Type 0) where
-  pub either : (b : Bool) (x y : A) → (b ≡ true → Q x) → (b ≡ false → Q y) → Q (cond b x y)
-  either true x y p q = p refl
-  either false x y p q = q refl
 
 -- ---- the loops
 
@@ -62,7 +41,7 @@ where-below f id i e = omega (arith, first-below entryId none (f .entries) id 0 
 
 -- ---- what a sound record gives the calls
 
-pub order-below : (order : List ℕ) (count k : ℕ) → okOrder order count k ≡ true → placeAt order k < count
+pub order-below : (order : List ℕ) (count k : ℕ) → okOrder order count k ≡ true → positionAt order k < count
 unfolding okOrder
 order-below order count k e = ltb-true _ _ (and-left _ _ e)
 
@@ -80,9 +59,9 @@ module _ (f : Frame) where
   unfolding okBegun
   counts-fit e = leb-true _ _ (and-left _ _ (and-left _ _ e))
 
-  places-fit : okBegun f ≡ true → (k : ℕ) → k < f .count → placeAt (f .order) k < f .count
+  positions-fit : okBegun f ≡ true → (k : ℕ) → k < f .count → positionAt (f .order) k < f .count
   unfolding okBegun okAt
-  places-fit e k h =
+  positions-fit e k h =
       order-below (f .order) (f .count) k
       (and-left _ _ (at-each 0 (f .count) (and-right (okDeadline (f .deadline)) _ (and-right (okCounts f) _ e)) k (omega arith) (omega arith)))
 
@@ -118,12 +97,12 @@ module _ (f : Frame) (r : Bool) where
   unfolding ready?
   is-ready e = sym e
 
--- its jobs have room, and the job on the panel has a place
+-- its jobs have room, and the job on the panel has a position
 pub open-fits : (f : Frame) → open? f ≡ true → f .count ≤ 32
 open-fits f e = counts-fit f (open-begun f e)
 
 pub begun-fits : (f : Frame) → begun? f ≡ true → f .count ≤ 32
 begun-fits f e = counts-fit f (begun-begun f e)
 
-pub open-place : (f : Frame) → open? f ≡ true → f .next < f .count → placeAt (f .order) (f .next) < 32
-open-place f e h = omega (arith, open-fits f e, places-fit f (open-begun f e) (f .next) h)
+pub open-position : (f : Frame) → open? f ≡ true → f .next < f .count → positionAt (f .order) (f .next) < 32
+open-position f e h = omega (arith, open-fits f e, positions-fit f (open-begun f e) (f .next) h)

@@ -12,9 +12,10 @@ use lib.ListN.{length, getD, set, replicate, length-set, length-replicate, getD-
 use lib.Seq.{getD-set-same, getD-set-other}
 use borrow.Author.Tests.{eqb-true, eqb-false, lt-ltb, le-ltb}
 use Rattle.lookup.specs.Lookup.{first}
-use Rattle.frame_record.specs.Sound.{none, entryAt, placeAt, entryId, itself, isAt, okId, okEntry, okOrder, okAt, okFrom}
+use Rattle.frame_record.specs.Sound.{none, entryAt, positionAt, entryId, itself, isAt, okId, okEntry, okOrder, okAt, okFrom}
 use Rattle.frame_record.specs.declared.Frame.{Frame}
-use Rattle.frame_record.proofs.Laws.{false-true, ok-turn, ok-end}
+use Rattle.model.proofs.Tests.{false-true}
+use Rattle.frame_record.proofs.Laws.{ok-turn, ok-end}
 use Rattle.frame_record.proofs.Sound.{own-tells, own-made}
 
 module _ {A : Type 0} (key : A → ℕ) (d : A) (xs : List A) where
@@ -74,49 +75,49 @@ module _ {A : Type 0} (key : A → ℕ) (d : A) (xs : List A) where
         step true q = let r = m .came (keyAt k) low e in absurd (own-tells key d xs c k q (r .0) (r .1) (r .2))
         step false q = refl
 
--- What `places_ok` keeps: what is still to look at gives the same as the whole, and the flags are of the places and the ids that have come.
-pub record Going (f : Frame) (places ids : List Bool) (k : ℕ) : Type 0 where
+-- What `positions_ok` keeps: what is still to look at gives the same as the whole, and the flags are of the positions and the ids that have come.
+pub record Going (f : Frame) (positions ids : List Bool) (k : ℕ) : Type 0 where
   pub inside : k ≤ f .count
   pub rest : okFrom f 0 (f .count) ≡ okFrom f k (f .count - k)
-  pub taken : Marks itself 0 (f .order) 32 places k
+  pub taken : Marks itself 0 (f .order) 32 positions k
   pub used : Marks entryId none (f .entries) 256 ids k
 
 pub going : (f : Frame) → Going f (replicate 32 false) (replicate 256 false) 0
 going f = record { inside = omega arith; rest = simp sub-zero; taken = marks-none itself 0 (f .order) 32; used = marks-none entryId none (f .entries) 256 }
 
-pub gone : {f : Frame} {places ids : List Bool} {k : ℕ} → Going f places ids k → f .count ≤ k → true ≡ okFrom f 0 (f .count)
-gone {f} {places} {ids} {k} g h = sym (g .rest ∙ ok-end f k (f .count) h)
+pub gone : {f : Frame} {positions ids : List Bool} {k : ℕ} → Going f positions ids k → f .count ≤ k → true ≡ okFrom f 0 (f .count)
+gone {f} {positions} {ids} {k} g h = sym (g .rest ∙ ok-end f k (f .count) h)
 
-module _ {f : Frame} (few : f .count ≤ 32) {places ids : List Bool} {k : ℕ} (g : Going f places ids k) (here : k < f .count) where
-  abbrev place : ℕ
-  place = placeAt (f .order) k
+module _ {f : Frame} (few : f .count ≤ 32) {positions ids : List Bool} {k : ℕ} (g : Going f positions ids k) (here : k < f .count) where
+  abbrev position : ℕ
+  position = positionAt (f .order) k
 
   abbrev own : ℕ
   own = entryAt (f .entries) k .id
 
   abbrev stands : Bool
-  stands = okEntry (f .number) (ltb k (f .next)) (entryAt (f .entries) place)
+  stands = okEntry (f .number) (ltb k (f .next)) (entryAt (f .entries) position)
 
   stops : okAt f k ≡ false → false ≡ okFrom f 0 (f .count)
   stops e = sym (g .rest ∙ (ok-turn f k (f .count) here ∙ rw e))
 
-  pub beyond : f .count ≤ place → false ≡ okFrom f 0 (f .count)
+  pub beyond : f .count ≤ position → false ≡ okFrom f 0 (f .count)
   unfolding okAt okOrder
-  beyond h = stops (rw (le-ltb place (f .count) h))
+  beyond h = stops (rw (le-ltb position (f .count) h))
 
-  module _ (low : place < f .count) where
-    pub place-again : getD places place false ≡ true → false ≡ okFrom f 0 (f .count)
+  module _ (low : position < f .count) where
+    pub position-again : getD positions position false ≡ true → false ≡ okFrom f 0 (f .count)
     unfolding okAt okOrder
-    place-again e = stops (rw (lt-ltb place (f .count) low, not-first itself 0 (f .order) (g .taken) (omega arith) (f .count) e))
+    position-again e = stops (rw (lt-ltb position (f .count) low, not-first itself 0 (f .order) (g .taken) (omega arith) (f .count) e))
 
-    module _ (new : getD places place false ≡ false) (byte : own < 256) where
-      place-first : okOrder (f .order) (f .count) k ≡ true
+    module _ (new : getD positions position false ≡ false) (byte : own < 256) where
+      position-first : okOrder (f .order) (f .count) k ≡ true
       unfolding okOrder
-      place-first = rw (lt-ltb place (f .count) low) (is-first itself 0 (f .order) (g .taken) (omega arith) (f .count) here new)
+      position-first = rw (lt-ltb position (f .count) low) (is-first itself 0 (f .order) (g .taken) (omega arith) (f .count) here new)
 
       pub id-again : getD ids own false ≡ true → false ≡ okFrom f 0 (f .count)
       unfolding okAt okId
-      id-again e = stops (rw (place-first, not-first entryId none (f .entries) (g .used) byte (f .count) e))
+      id-again e = stops (rw (position-first, not-first entryId none (f .entries) (g .used) byte (f .count) e))
 
       module _ (unused : getD ids own false ≡ false) where
         id-first : okId (f .entries) (f .count) k ≡ true
@@ -125,13 +126,13 @@ module _ {f : Frame} (few : f .count ≤ 32) {places ids : List Bool} {k : ℕ} 
 
         pub badly : stands ≡ false → false ≡ okFrom f 0 (f .count)
         unfolding okAt
-        badly e = stops (rw (place-first, id-first, e))
+        badly e = stops (rw (position-first, id-first, e))
 
-        pub onward : stands ≡ true → Going f (set places place true) (set ids own true) (k + 1)
+        pub onward : stands ≡ true → Going f (set positions position true) (set ids own true) (k + 1)
         unfolding okAt
         onward e = record {
           inside = omega arith;
-          rest = g .rest ∙ (ok-turn f k (f .count) here ∙ rw (place-first, id-first, e));
+          rest = g .rest ∙ (ok-turn f k (f .count) here ∙ rw (position-first, id-first, e));
           taken = marks-more itself 0 (f .order) (g .taken) (omega arith);
           used = marks-more entryId none (f .entries) (g .used) byte;
         }

@@ -10,7 +10,7 @@ use lib.ListN.{getD}
 use lib.Dec.{leb, ltb, eqb}
 use Rattle.table.specs.Limits.{mostJobs}
 use Rattle.lookup.specs.Lookup.{first}
-use Rattle.frame_record.specs.Sound.{none, entryAt, placeAt, entryId, itself, isAt, okId, okStanding, okEntry, okOrder, okAt, okFrom, okCounts}
+use Rattle.frame_record.specs.Sound.{none, entryAt, positionAt, entryId, itself, isAt, okId, okStanding, okEntry, okOrder, okAt, okFrom, okCounts}
 use Rattle.frame_record.specs.Sound.{okDeadline, okBegun, okIn, isOpen, sound?, open?}
 use Rattle.frame_record.specs.Listed.{MayStand, planEntry, Begun, SoundIn, SoundFrame}
 use Rattle.frame_record.specs.declared.Phase.{Phase}
@@ -21,7 +21,8 @@ use Rattle.frame_record.specs.declared.Frame.{Frame}
 use Rattle.lookup.specs.declared.Found.{Found}
 use Rattle.lookup.specs.declared.Found.the-variants.{At, Nowhere}
 use Rattle.lookup.proofs.Lookup.{first-least, first-found}
-use Rattle.frame_record.proofs.Laws.{false-true, and-left, and-right, and-both, at-each, order-below, open-begun}
+use Rattle.model.proofs.Tests.{false-true, and-left, and-right, and-both}
+use Rattle.frame_record.proofs.Laws.{at-each, order-below, open-begun}
 
 -- ---- no position before has the key
 
@@ -62,9 +63,9 @@ module _ (number k next : ℕ) (away : Bool) where
 -- ---- the test and the list
 
 module _ (f : Frame) where
-  order-own : (k : ℕ) → okOrder (f .order) (f .count) k ≡ true → (i : ℕ) → i < k → placeAt (f .order) i ≡ placeAt (f .order) k → ⊥
+  order-own : (k : ℕ) → okOrder (f .order) (f .count) k ≡ true → (i : ℕ) → i < k → positionAt (f .order) i ≡ positionAt (f .order) k → ⊥
   unfolding okOrder
-  order-own k e = own-tells itself 0 (f .order) (f .count) k (and-right (ltb (placeAt (f .order) k) (f .count)) _ e)
+  order-own k e = own-tells itself 0 (f .order) (f .count) k (and-right (ltb (positionAt (f .order) k) (f .count)) _ e)
 
   id-own : (k : ℕ) → okId (f .entries) (f .count) k ≡ true → (i : ℕ) → i < k → entryAt (f .entries) i .id ≡ entryAt (f .entries) k .id → ⊥
   unfolding okId
@@ -97,8 +98,8 @@ module _ (f : Frame) where
       reached = leb-true _ _ (and-right (leb (f .count) mostJobs) _ counts);
       low = leb-true _ _ (and-left _ _ in-range);
       high = leb-true _ _ (and-right (leb 1 (f .deadline)) _ in-range);
-      places = λ k h. order-below (f .order) (f .count) k (order-at k h);
-      places-differ = λ i k h b. order-own k (order-at k b) i h;
+      positions = λ k h. order-below (f .order) (f .count) k (order-at k h);
+      positions-differ = λ i k h b. order-own k (order-at k b) i h;
       ids-differ = λ i k h b. id-own k (and-left _ _ (rest-at k b)) i h;
       stands = λ k h.
           stand-tells (f .number) k (f .next) (planEntry f k .away) (planEntry f k .standing)
@@ -108,7 +109,7 @@ module _ (f : Frame) where
   module _ (b : Begun f) where
     order-made : (k : ℕ) → k < f .count → okOrder (f .order) (f .count) k ≡ true
     unfolding okOrder
-    order-made k h = and-both _ _ (lt-ltb _ _ (b .places k h)) (own-made itself 0 (f .order) (f .count) k h (λ i q. b .places-differ i k q h))
+    order-made k h = and-both _ _ (lt-ltb _ _ (b .positions k h)) (own-made itself 0 (f .order) (f .count) k h (λ i q. b .positions-differ i k q h))
 
     id-made : (k : ℕ) → k < f .count → okId (f .entries) (f .count) k ≡ true
     unfolding okId

@@ -4,7 +4,7 @@ use mathlib.Core.Path.{_≡_}
 use mathlib.Core.Bool.{Bool, true}
 use Rattle.table.specs.Limits.{mostJobs, largestTime}
 use Rattle.frame_record.specs.Finite.{finite?}
-use Rattle.frame_record.specs.Sound.{entryAt, placeAt}
+use Rattle.frame_record.specs.Sound.{entryAt, positionAt}
 use Rattle.frame_record.specs.declared.Phase.{Phase}
 use Rattle.frame_record.specs.declared.Phase.the-variants.{Idle, Open, Closed}
 use Rattle.frame_record.specs.declared.Standing.{Standing}
@@ -23,16 +23,16 @@ MayStand number k next away Late = k < next
 
 -- the entry of the k-th job of the plan
 abbrev pub planEntry : Frame → ℕ → Entry
-planEntry f k = entryAt (f .entries) (placeAt (f .order) k)
+planEntry f k = entryAt (f .entries) (positionAt (f .order) k)
 
--- counts and deadline in range; the plan's order a permutation of the table's places; ids that differ; each job where it may stand
+-- counts and deadline in range; the plan's order a permutation of the table's positions; ids that differ; each job where it may stand
 pub record Begun (f : Frame) : Type 0 where
   pub room : f .count ≤ mostJobs
   pub reached : f .next ≤ f .count
   pub low : 1 ≤ f .deadline
   pub high : f .deadline ≤ largestTime
-  pub places : (k : ℕ) → k < f .count → placeAt (f .order) k < f .count
-  pub places-differ : (i k : ℕ) → i < k → k < f .count → placeAt (f .order) i ≡ placeAt (f .order) k → ⊥
+  pub positions : (k : ℕ) → k < f .count → positionAt (f .order) k < f .count
+  pub positions-differ : (i k : ℕ) → i < k → k < f .count → positionAt (f .order) i ≡ positionAt (f .order) k → ⊥
   pub ids-differ : (i k : ℕ) → i < k → k < f .count → entryAt (f .entries) i .id ≡ entryAt (f .entries) k .id → ⊥
   pub stands : (k : ℕ) → k < f .count → MayStand (f .number) k (f .next) (planEntry f k .away) (planEntry f k .standing)
 

@@ -24,8 +24,8 @@ none = record { id = 0; away = false; standing = Waiting }
 abbrev pub entryAt : List Entry → ℕ → Entry
 entryAt es i = getD es i none
 
-abbrev pub placeAt : List ℕ → ℕ → ℕ
-placeAt order k = getD order k 0
+abbrev pub positionAt : List ℕ → ℕ → ℕ
+positionAt order k = getD order k 0
 
 abbrev pub entryId : Entry → ℕ
 entryId e = e .id
@@ -35,11 +35,11 @@ unfoldable pub whereIs : Frame → ℕ → Found
 whereIs f id = first entryId none (f .entries) id 0 (f .count)
 
 -- the job now on the panel: the one that the plan is at
-abbrev pub panelPlace : Frame → ℕ
-panelPlace f = placeAt (f .order) (f .next)
+abbrev pub panelPosition : Frame → ℕ
+panelPosition f = positionAt (f .order) (f .next)
 
 abbrev pub panelEntry : Frame → Entry
-panelEntry f = entryAt (f .entries) (panelPlace f)
+panelEntry f = entryAt (f .entries) (panelPosition f)
 
 abbrev pub itself : ℕ → ℕ
 itself n = n
@@ -62,16 +62,16 @@ okStanding number passed away Late = passed
 abbrev pub okEntry : ℕ → Bool → Entry → Bool
 okEntry number passed e = okStanding number passed (e .away) (e .standing)
 
--- the k-th job of the plan has a place in the table
+-- the k-th job of the plan has a position in the table
 unfoldable pub okOrder : List ℕ → ℕ → ℕ → Bool
-okOrder order count k = ltb (placeAt order k) count && isAt (first itself 0 order (placeAt order k) 0 count) k
+okOrder order count k = ltb (positionAt order k) count && isAt (first itself 0 order (positionAt order k) 0 count) k
 
--- the k-th job of the plan has a place of its own, the k-th job of the table an id of its own, and the former stands where it may
+-- the k-th job of the plan has a position of its own, the k-th job of the table an id of its own, and the former stands where it may
 unfoldable pub okAt : Frame → ℕ → Bool
 okAt f k =
     okOrder (f .order) (f .count) k
     && (okId (f .entries) (f .count) k
-    && okEntry (f .number) (ltb k (f .next)) (entryAt (f .entries) (placeAt (f .order) k)))
+    && okEntry (f .number) (ltb k (f .next)) (entryAt (f .entries) (positionAt (f .order) k)))
 
 -- the n positions from k on
 unfoldable pub okFrom : Frame → ℕ → ℕ → Bool

@@ -167,32 +167,32 @@ impl Frame {
         }
     }
 
-    // Each job of the plan has a place of its own in the table, each job of the table an id of its own, and each stands where it may.
-    // One pass: the flags tell the places and the ids that have come.
-    fn places_ok(self) -> bool
+    // Each job of the plan has a position of its own in the table, each job of the table an id of its own, and each stands where it may.
+    // One pass: the flags tell the positions and the ids that have come.
+    fn positions_ok(self) -> bool
         requires { ⌜ self .count ≤ mostJobs ⌝ }
         ensures { λ r. ⌜ r ≡ okFrom self 0 (self .count) ⌝ }
     {
         let count = self.count;
-        let mut places = [false; Table::MOST_JOBS];
+        let mut positions = [false; Table::MOST_JOBS];
         let mut ids = [false; 256];
         let mut k = 0;
         while k < count {
-            let place = self.order[k];
-            if count <= place {
+            let position = self.order[k];
+            if count <= position {
                 return false;
             }
-            if places[place] {
+            if positions[position] {
                 return false;
             }
-            places[place] = true;
+            positions[position] = true;
             let own = self.entries[k];
             let id = own.id as usize;
             if ids[id] {
                 return false;
             }
             ids[id] = true;
-            let e = self.entries[place];
+            let e = self.entries[position];
             if !entry_ok(self.number, k < self.next, e) {
                 return false;
             }
@@ -217,7 +217,7 @@ impl Frame {
         if Table::LARGEST_TIME < self.deadline {
             return false;
         }
-        self.places_ok()
+        self.positions_ok()
     }
 
     // Whether the record is sound: the test that every call makes first.
@@ -248,7 +248,7 @@ impl Frame {
     }
 
     // Where the job of an id stands in the table.
-    pub fn place_of(self, id: u8) -> Found
+    pub fn position_of(self, id: u8) -> Found
         requires { ⌜ self .count ≤ mostJobs ⌝ }
         ensures { λ r. ⌜ r ≡ whereIs self id ⌝ }
     {

@@ -7,7 +7,7 @@ use lib.Dec.{leb, ltb, eqb}
 use lib.Ieee.{Float}
 use Rattle.table.specs.declared.refusal.Refusal.the-variants as R
 use Rattle.frame_record.specs.Finite.{finite?}
-use Rattle.frame_record.specs.Sound.{entryAt, whereIs, panelPlace, panelEntry}
+use Rattle.frame_record.specs.Sound.{entryAt, whereIs, panelPosition, panelEntry}
 use Rattle.frame_record.specs.Answers.{refused, done, inOpen, onClock}
 use Rattle.frame_record.specs.declared.Standing.{Standing}
 use Rattle.frame_record.specs.declared.Standing.the-variants.{Waiting, Out, Held, Late}
@@ -21,7 +21,7 @@ use Rattle.frame_record.specs.declared.Called.{Called}
 abbrev pub judge : Float → ℕ → ℕ → ℕ → Standing
 judge v number time deadline = cond (leb time deadline) (Held (record { value = v; frame = number })) Late
 
--- the job at a place of the table stands at s from now on; the time and how far the plan is are set
+-- the job at a position of the table stands at s from now on; the time and how far the plan is are set
 abbrev pub standing : Entry → Standing → Entry
 standing e s = record { id = e .id; away = e .away; standing = s }
 
@@ -40,10 +40,10 @@ moved f at time next s = record {
 -- "Span end: .. for a here job VALUE. A here job gets its value if time <= D, else is late. An away job is now out, its value argument
 -- ignored. The next job starts at this time."
 abbrev pub spanAt : Frame → ℕ → Float → Bool → Called
-spanAt f t v true = done (moved f (panelPlace f) t (f .next + 1) Out)
+spanAt f t v true = done (moved f (panelPosition f) t (f .next + 1) Out)
 spanAt f t v false =
     cond (finite? v)
-    (done (moved f (panelPlace f) t (f .next + 1) (judge v (f .number) t (f .deadline))))
+    (done (moved f (panelPosition f) t (f .next + 1) (judge v (f .number) t (f .deadline))))
     (refused R.Value f)
 
 -- "WHO unless it is the job now on the panel"
@@ -56,17 +56,17 @@ spanStep f id t v =
     inOpen f (onClock f t (cond (onPanel f id) (spanAt f t v (panelEntry f .away)) (refused R.Who f)))
 
 -- "Return: .. WHO unless that job is out; VALUE. Value if time <= D, else late; no longer out."
-abbrev pub backAt : Frame → ℕ → ℕ → Float → Standing → Called
-backAt f at t v Waiting = refused R.Who f
-backAt f at t v Out =
+abbrev pub returnAt : Frame → ℕ → ℕ → Float → Standing → Called
+returnAt f at t v Waiting = refused R.Who f
+returnAt f at t v Out =
     cond (finite? v)
     (done (moved f at t (f .next) (judge v (f .number) t (f .deadline))))
     (refused R.Value f)
-backAt f at t v (Held s) = refused R.Who f
-backAt f at t v Late = refused R.Who f
+returnAt f at t v (Held s) = refused R.Who f
+returnAt f at t v Late = refused R.Who f
 
 abbrev pub backTo : Frame → ℕ → Float → Found → Called
-backTo f t v (At i) = backAt f i t v (entryAt (f .entries) i .standing)
+backTo f t v (At i) = returnAt f i t v (entryAt (f .entries) i .standing)
 backTo f t v Nowhere = refused R.Who f
 
 -- "PHASE unless open; NUMBER; CLOCK; WHO; VALUE"

@@ -11,9 +11,9 @@ use table::refusal::Refusal;
 ghost use mathlib.Core.Path.{_≡_};
 ghost use Prim.Native.Nat.{_<_};
 ghost use Rattle.table.specs.Limits.{mostJobs};
-ghost use Rattle.frame_record.specs.Sound.{placeAt};
+ghost use Rattle.frame_record.specs.Sound.{positionAt};
 ghost use Rattle.frame_record.specs.Answers.{done};
-ghost use Rattle.frame_reports.specs.Reports.{judge, moved, spanAt, spanStep, backAt, backStep};
+ghost use Rattle.frame_reports.specs.Reports.{judge, moved, spanAt, spanStep, returnAt, backStep};
 
 // What a value that comes at a time makes of its job.
 fn judged(value: f32, number: u32, time: u16, deadline: u16) -> Standing
@@ -29,7 +29,7 @@ fn judged(value: f32, number: u32, time: u16, deadline: u16) -> Standing
     }
 }
 
-// An event is accepted: the job at a place of the table stands at s from now on.
+// An event is accepted: the job at a position of the table stands at s from now on.
 fn done_with(mut f: Frame, at: usize, time: u16, next: usize, s: Standing) -> Called
     requires { ⌜ at < mostJobs ⌝ }
     ensures { λ r. ⌜ r ≡ done (moved f at time next s) ⌝ }
@@ -48,9 +48,9 @@ fn done_with(mut f: Frame, at: usize, time: u16, next: usize, s: Standing) -> Ca
     }
 }
 
-// The span of the job at a place ends: the job is out, or has its value.
+// The span of the job at a position ends: the job is out, or has its value.
 fn span_at(f: Frame, at: usize, time: u16, value: f32, away: bool) -> Called
-    requires { ⌜ (f .next < mostJobs) × (at < mostJobs) × (at ≡ placeAt (f .order) (f .next)) ⌝ }
+    requires { ⌜ (f .next < mostJobs) × (at < mostJobs) × (at ≡ positionAt (f .order) (f .next)) ⌝ }
     ensures { λ r. ⌜ r ≡ spanAt f time value away ⌝ }
 {
     let next = f.next + 1;
@@ -86,10 +86,10 @@ pub fn span_end(f: Frame, id: u8, time: u16, value: f32) -> Called
     f.refuse(Refusal::Who)
 }
 
-// A value comes back for the job at a place, which stands at s.
+// A value comes back for the job at a position, which stands at s.
 fn back_at(f: Frame, at: usize, time: u16, value: f32, s: Standing) -> Called
     requires { ⌜ at < mostJobs ⌝ }
-    ensures { λ r. ⌜ r ≡ backAt f at time value s ⌝ }
+    ensures { λ r. ⌜ r ≡ returnAt f at time value s ⌝ }
 {
     match s {
         Standing::Out => {
@@ -120,7 +120,7 @@ pub fn give_back(f: Frame, number: u32, id: u8, time: u16, value: f32) -> Called
     if time < clock {
         return f.refuse(Refusal::Clock);
     }
-    let found = f.place_of(id);
+    let found = f.position_of(id);
     match found {
         Found::At(i) => {
             let e = f.entries[i];

@@ -13,17 +13,17 @@ use Rattle.model.specs.Timetable.{Chosen, here, span}
 use Rattle.model.specs.FreeOrder.{isAway, plan, busy}
 use Rattle.model.specs.Recurrence.{jobsInAwayOrder}
 use Rattle.model.specs.Laying.{chosen, mostBusy}
-use Rattle.model.specs.Positions.{noJob, noChoice, places, choose}
+use Rattle.model.specs.Positions.{noJob, noChoice, positions, choose}
 use Rattle.model.proofs.Lists.{all-at, all-map, map-all, at-any, filter-length}
-use Rattle.model.proofs.Places.{places-below}
+use Rattle.model.proofs.Positions.{positions-below}
 use Rattle.model.proofs.Bounds.{span-short}
 use Rattle.model.proofs.Flags.{choose-away, choose-jobs}
 use Rattle.table.specs.Limits.{largestTime, mostJobs}
 use Rattle.table.specs.Tables.{TimesOk}
 use Rattle.choice.specs.declared.Prepared.{Prepared}
 use Rattle.choice.specs.Choices.{SoundJobs, preparedOf, jobsAt}
-use Rattle.choice.proofs.AwayJobs.{order-jobs, places-few}
-use Rattle.choice.proofs.Held.{held-places, held-jobs}
+use Rattle.choice.proofs.AwayJobs.{order-jobs, positions-few}
+use Rattle.choice.proofs.Held.{held-positions, held-jobs}
 use Rattle.draft.specs.declared.Draft.{Draft}
 use Rattle.draft.specs.Drafts.{draftOf, withIf}
 use Rattle.draft.proofs.Drafts.{Roomy, Listing, listing-end, listing-room, listing-more}
@@ -60,12 +60,12 @@ choose-short (j ∷ js) (f ∷ flags) a = (span-short largestTime (chosen j f) (
 
 -- what `away_part` takes out of what is prepared
 pub record Prepares (js : List Job) (count : ℕ) (at : List ℕ) (jobs : List Job) : Type 0 where
-  pub counted : count ≡ length (places js)
-  pub placed : take count at ≡ places js
+  pub counted : count ≡ length (positions js)
+  pub placed : take count at ≡ positions js
   pub ordered : take count jobs ≡ jobsInAwayOrder js
 
-pub prepares : (p : Prepared) (js : List Job) → p ≡ preparedOf js → Prepares js (p .count) (p .places) (p .jobs)
-prepares p js e = record { counted = ap (λ (q : Prepared). q .count) e; placed = held-places p js e; ordered = held-jobs p js e }
+pub prepares : (p : Prepared) (js : List Job) → p ≡ preparedOf js → Prepares js (p .count) (p .positions) (p .jobs)
+prepares p js e = record { counted = ap (λ (q : Prepared). q .count) e; placed = held-positions p js e; ordered = held-jobs p js e }
 
 module _ (js : List Job) (sound : SoundJobs js) (flags : List Bool) where
   abbrev cs : List Chosen
@@ -74,19 +74,19 @@ module _ (js : List Job) (sound : SoundJobs js) (flags : List Bool) where
   first : Chosen
   first = getD (choose js flags) 0 noChoice
 
-  pub away-count : length cs ≡ length (places js)
-  away-count = length-map (places js) (λ (i : ℕ). getD (choose js flags) i noChoice)
+  pub away-count : length cs ≡ length (positions js)
+  away-count = length-map (positions js) (λ (i : ℕ). getD (choose js flags) i noChoice)
 
   pub away-short : All (λ (c : Chosen). span c ≤ largestTime) cs
   away-short =
-      map-all (λ (i : ℕ). getD (choose js flags) i noChoice) (λ (c : Chosen). span c ≤ largestTime) (places js)
+      map-all (λ (i : ℕ). getD (choose js flags) i noChoice) (λ (c : Chosen). span c ≤ largestTime) (positions js)
       (all-map (λ (i : ℕ) (h : i < length js). all-at (λ (c : Chosen). span c ≤ largestTime) (choose js flags) noChoice
-      (choose-short js flags (sound .times)) i (omega (arith, choose-length js flags))) (places js) (places-below js))
+      (choose-short js flags (sound .times)) i (omega (arith, choose-length js flags))) (positions js) (positions-below js))
 
   pub away-roomy : Roomy isAway [] cs
   away-roomy =
       record {
-        few = omega (arith, filter-length isAway cs, away-count, places-few js, sound .few);
+        few = omega (arith, filter-length isAway cs, away-count, positions-few js, sound .few);
         short = away-short;
         early = omega arith;
       }
@@ -96,14 +96,14 @@ module _ (js : List Job) (sound : SoundJobs js) (flags : List Bool) where
     away-next : (k : ℕ) → k < count → getD cs k first ≡ chosen (getD jobs k noJob) (getD flags (getD at k 0) false)
     unfolding first
     away-next k h =
-        let l : k < length (places js) = omega (arith, p .counted) in
-        let place : getD at k 0 ≡ getD (places js) k 0 = sym (getD-take count at k 0 h) ∙ ap (λ (is : List ℕ). getD is k 0) (p .placed) in
-        let job : getD jobs k noJob ≡ getD js (getD (places js) k 0) noJob =
+        let l : k < length (positions js) = omega (arith, p .counted) in
+        let position : getD at k 0 ≡ getD (positions js) k 0 = sym (getD-take count at k 0 h) ∙ ap (λ (is : List ℕ). getD is k 0) (p .placed) in
+        let job : getD jobs k noJob ≡ getD js (getD (positions js) k 0) noJob =
         sym (getD-take count jobs k noJob h) ∙ (ap (λ (os : List Job). getD os k noJob) (p .ordered ∙ order-jobs js)
-        ∙ (at-any (jobsAt js (places js)) k noJob (getD js 0 noJob) (rw (length-map (places js) (λ (i : ℕ). getD js i noJob)) l)
-        ∙ List·getD-map (λ (i : ℕ). getD js i noJob) (places js) k 0)) in
-        List·getD-map (λ (i : ℕ). getD (choose js flags) i noChoice) (places js) k 0
-        ∙ (choose-at js flags (getD (places js) k 0) (all-at (λ (i : ℕ). i < length js) (places js) 0 (places-below js) k l) ∙ rw (place, job))
+        ∙ (at-any (jobsAt js (positions js)) k noJob (getD js 0 noJob) (rw (length-map (positions js) (λ (i : ℕ). getD js i noJob)) l)
+        ∙ List·getD-map (λ (i : ℕ). getD js i noJob) (positions js) k 0)) in
+        List·getD-map (λ (i : ℕ). getD (choose js flags) i noChoice) (positions js) k 0
+        ∙ (choose-at js flags (getD (positions js) k 0) (all-at (λ (i : ℕ). i < length js) (positions js) 0 (positions-below js) k l) ∙ rw (position, job))
 
     pub away-room : (draft : Draft) (k : ℕ) → k < count → Listing isAway [] cs draft k → getD flags (getD at k 0) false ≡ true
         → (draft .plan .count < mostJobs) × (draft .laid .busy ≤ mostBusy)

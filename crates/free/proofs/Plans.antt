@@ -16,7 +16,7 @@ use Rattle.model.specs.Positions.{choose, planFound, free}
 use Rattle.model.proofs.Lists.{clash, all-filter}
 use Rattle.model.proofs.Permutations.{length-perm}
 use Rattle.model.proofs.PlanOrder.{perm-plan}
-use Rattle.model.proofs.Places.{order-places}
+use Rattle.model.proofs.Positions.{order-positions}
 use Rattle.model.proofs.Free.{answer-choice}
 use Rattle.table.specs.Limits.{mostJobs, largestTime}
 use Rattle.choice.specs.declared.BestMask.the-variants.{Mask, Nothing}
@@ -59,7 +59,7 @@ module _ (js : List Job) (sound : SoundJobs js) (D : ℕ) where
     best = answer-choice mostJobs js (sound .few) D (with-total .0) m (with-total .1) .0
 
     in-parts : plan cs ≡ sent ++ filter here cs
-    in-parts = ap (λ (l : List Chosen). filter isAway l ++ filter here cs) (order-places js cs (best .choice))
+    in-parts = ap (λ (l : List Chosen). filter isAway l ++ filter here cs) (order-positions js cs (best .choice))
 
     pub found-room : (front : Draft) → front ≡ draftOf sent → HereRoom front cs
     found-room front h =

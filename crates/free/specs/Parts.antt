@@ -1,4 +1,4 @@
--- The two parts of a free-order plan: the jobs by their places in away order, and the room that the here jobs find behind the away jobs.
+-- The two parts of a free-order plan: the jobs by their positions in away order, and the room that the here jobs find behind the away jobs.
 -- Assumes nothing.
 use mathlib.Core.Path.{_≡_}
 use mathlib.Core.Bool.{Bool}
@@ -9,14 +9,14 @@ use Rattle.model.specs.declared.Job.{Job}
 use Rattle.model.specs.Lists.{All, filter}
 use Rattle.model.specs.Timetable.{Chosen, here, span}
 use Rattle.model.specs.FreeOrder.{busy}
-use Rattle.model.specs.Positions.{noChoice, places, choose}
+use Rattle.model.specs.Positions.{noChoice, positions, choose}
 use Rattle.table.specs.Limits.{mostJobs, largestTime}
 use Rattle.draft.specs.declared.Draft.{Draft}
 use Rattle.draft.specs.Drafts.{draftOf}
 
 -- the either jobs in away order, with their flags
 abbrev pub inAwayOrder : List Job → List Bool → List Chosen
-inAwayOrder js flags = map (λ (i : ℕ). getD (choose js flags) i noChoice) (places js)
+inAwayOrder js flags = map (λ (i : ℕ). getD (choose js flags) i noChoice) (positions js)
 
 -- the draft is that of some jobs, and the here jobs find room behind them
 pub record HereRoom (front : Draft) (cs : List Chosen) : Type 0 where

@@ -26,12 +26,12 @@ fn away_part(p: Prepared, flags: [bool; Table::MOST_JOBS]) -> Draft
     ensures { λ r. ⌜ ((js : List Job) → SoundJobs js → p ≡ preparedOf js → r ≡ draftOf (filter isAway (inAwayOrder js flags))) ⌝ }
 {
     let count = p.count;
-    let places = p.places;
+    let positions = p.positions;
     let jobs = p.jobs;
     let mut draft = Draft::empty();
     for k in 0..count {
-        let place = places[k];
-        draft = draft.with_if(flags[place], jobs[k], true);
+        let position = positions[k];
+        draft = draft.with_if(flags[position], jobs[k], true);
     }
     draft
 }

@@ -67,7 +67,7 @@ abbrev pub Named : List Job → Chosen → Type 0
 Named js c = jobOf js (c .job .id) ≡ some (c .job)
 
 -- Steps that are listed as these jobs with their choices.
-pub record Lists (js : List Job) (xs : List Step) (cs : List Chosen) : Type 0 where
+pub record ListedAs (js : List Job) (xs : List Step) (cs : List Chosen) : Type 0 where
   pub steps : stepsFor cs ≡ xs
   pub allowed : All Allowed cs
   pub named : All (Named js) cs
@@ -96,16 +96,16 @@ before-tells (refused f) p cs e = clash (cc)
 before-tells (accepted c) (refused f) cs e = clash (cc)
 before-tells (accepted c) (accepted ds) cs e = (c, ds, refl, refl, (cc))
 
-pub listed-tells : (js : List Job) (xs : List Step) (cs : List Chosen) → listed js xs ≡ accepted cs → Lists js xs cs
+pub listed-tells : (js : List Job) (xs : List Step) (cs : List Chosen) → listed js xs ≡ accepted cs → ListedAs js xs cs
 unfolding listed
-listed-tells js [] cs e = let none : [] ≡ cs = cc in subst (Lists js []) none (record { steps = refl; allowed = tt; named = tt })
+listed-tells js [] cs e = let none : [] ≡ cs = cc in subst (ListedAs js []) none (record { steps = refl; allowed = tt; named = tt })
 listed-tells js (x ∷ xs) cs e =
     let r = before-tells (chosenBy x (jobOf js (x .id))) (listed js xs) cs e in
     let c = chosen-tells x (jobOf js (x .id)) (r .0) (r .2) in
     let id : r .0 .job .id ≡ x .id = with-tells jobId js (x .id) (r .0 .job) (c .0) .1 in
     let l = listed-tells js xs (r .1) (r .3) in
     let first : stepOf (r .0) ≡ x = λ i. record { id = id i; away = c .1 i } in
-    subst (Lists js (x ∷ xs)) (r .4)
+    subst (ListedAs js (x ∷ xs)) (r .4)
     (record { steps = (cc (l .steps)); allowed = (c .2, l .allowed); named = (rw id (c .0), l .named) })
 
 pub listed-from : (js : List Job) (cs : List Chosen) → All Allowed cs → All (Named js) cs → listed js (stepsFor cs) ≡ accepted cs

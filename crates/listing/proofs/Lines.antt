@@ -18,7 +18,7 @@ use Rattle.bytes.specs.Decimals.{decimal}
 use Rattle.bytes.proofs.Writing.{written-length, written-append, written-nil, room-first}
 use Rattle.lines.specs.Lines.{space, pairLine}
 use Rattle.listing.specs.Listing.{choiceWord, jobLine, jobLines}
-use Rattle.listing.specs.Found.{jobWith, chosenBy, chosenFor, placed}
+use Rattle.listing.specs.Found.{jobWith, withJob, chosenFor, placed}
 
 -- a job's line, as `put_job_line` writes it
 pub job-parts :
@@ -50,7 +50,7 @@ module _ (js : List Job) (steps : List Step) where
       Wrote out₀ from (linesLeft 0 0) out at
   unfolding jobLines
   kept-end {out₀} {out} {from} {i} {at} h k =
-      let none : drop i xs ≡ [] = drop-of-length-le xs {i = i} (omega (arith, length-map steps (chosenBy js))) in
+      let none : drop i xs ≡ [] = drop-of-length-le xs {i = i} (omega (arith, length-map steps (withJob js))) in
       record {
         place = omega (arith, rw none at (k .place));
         area = rw (none, written-nil) at (k .rest);
@@ -66,9 +66,9 @@ module _ (js : List Job) (steps : List Step) where
     next-line : linesLeft i start ≡ line ++ left
     unfolding jobLines
     next-line =
-        let there : i < length xs = omega (arith, length-map steps (chosenBy js)) in
-        let next : getD xs i (chosenBy js noStep) ≡ chosen j (x .away) = List·getD-map (chosenBy js) steps i noStep ∙ rw (step, found) in
-        rw (drop-cons xs i (chosenBy js noStep) there, next, add-one)
+        let there : i < length xs = omega (arith, length-map steps (withJob js)) in
+        let next : getD xs i (withJob js noStep) ≡ chosen j (x .away) = List·getD-map (withJob js) steps i noStep ∙ rw (step, found) in
+        rw (drop-cons xs i (withJob js noStep) there, next, add-one)
 
     module _ {out₀ out : List ℕ} {from at : ℕ} (room : from + length (linesLeft 0 0) ≤ length out₀) (k : Kept out₀ from out i at start) where
       whole : at + length (line ++ left) ≤ length out

@@ -15,7 +15,7 @@ use Rattle.table.specs.Records.{one}
 use Rattle.table.specs.Tables.{JobTable, jobId, jobsRead, readTable}
 use Rattle.table.proofs.Written.{row-next}
 use Rattle.table.proofs.Listed.{listed-all}
-use Rattle.table.proofs.Tables.{rowEntry, RowIs, row-here, row-either, row-is, row-few}
+use Rattle.table.proofs.Tables.{rowParsed, RowIs, row-here, row-either, row-is, row-few}
 use Rattle.table.proofs.Accepted.{accepted-read}
 
 -- the record after n jobs begins at 3 + 8 n at the latest, and n is at most 32
@@ -40,7 +40,7 @@ pub accepted-ids : (s : List ℕ) (t : JobTable) → ((i : ℕ) → getD s i 0 <
 unfolding jobsRead
 accepted-ids s t bytes e =
     let r = accepted-read s t e in
-    listed-all jobId (rowEntry s) (length s) (λ (js : List Job) (p : Place). All (λ (j : Job). j .id < 256) js) (All (λ (j : Job). j .id < 256))
+    listed-all jobId (rowParsed s) (length s) (λ (js : List Job) (p : Place). All (λ (j : Job). j .id < 256) js) (All (λ (j : Job). j .id < 256))
     (λ js p j next ok x new. all-append (λ (k : Job). k .id < 256) js (j ∷ []) ok (row-id bytes (row-is s p (length js) x), tt))
     (λ js p next ok x end. ok)
     (suc mostJobs) [] (r .first) tt (t .jobs) (r .jobs)

@@ -25,10 +25,10 @@ use Rattle.table.specs.declared.FrameRead.the-variants.{FrameRefused}
 use Rattle.table.specs.declared.JobRead.the-variants.{JobRefused}
 use Rattle.table.specs.Limits.{mostJobs}
 use Rattle.table.specs.Refusals.{start, past, Outcome, accepted, refused}
-use Rattle.table.specs.Records.{formOf, frameOnly, rowOnly, allowed, judged, Entry, one, last, bad, used, follow, listFrom}
-use Rattle.table.specs.Tables.{deadlineAt, frameAt, rowBody, jobAt, jobEntry, jobId, jobsRead, withDeadline, afterFrame, readTable}
+use Rattle.table.specs.Records.{formOf, frameOnly, rowOnly, allowed, judged, Parsed, one, last, bad, used, follow, listFrom}
+use Rattle.table.specs.Tables.{deadlineAt, frameAt, rowBody, jobAt, jobParsed, jobId, jobsRead, withDeadline, afterFrame, readTable}
 use Rattle.table.proofs.Records.{rowLength, stepLength, form-all}
-use Rattle.table.proofs.Tables.{frame-all, rowEntry, row-is}
+use Rattle.table.proofs.Tables.{frame-all, rowParsed, row-is}
 use Rattle.listing.specs.Listing.{outcomeText, textOf}
 use Rattle.table.proofs.Written.{end-next}
 use Rattle.listing.proofs.Places.{Near, near-first, near-next}
@@ -111,26 +111,26 @@ module _ (s : List ℕ) (N : ℕ) (enough : 267 ≤ N) where
       )
   body-same p n h next EndRow = refl
 
-  row-same : (p : Place) (n : ℕ) → p .at + 8 ≤ N → rowEntry front p n ≡ rowEntry s p n
+  row-same : (p : Place) (n : ℕ) → p .at + 8 ≤ N → rowParsed front p n ≡ rowParsed s p n
   unfolding jobAt
-  row-same p n h = ap jobEntry (judged-same JobRefused (rowBody s p n) (rowBody front p n) rowOnly p h (body-same p n h))
+  row-same p n h = ap jobParsed (judged-same JobRefused (rowBody s p n) (rowBody front p n) rowOnly p h (body-same p n h))
 
   -- and so are all records
   list-same :
       (left : ℕ) (before : List Job) (p : Place) → Near before p →
-      listFrom jobId (rowEntry front) (length front) left before p ≡ listFrom jobId (rowEntry s) (length s) left before p
+      listFrom jobId (rowParsed front) (length front) left before p ≡ listFrom jobId (rowParsed s) (length s) left before p
   unfolding listFrom
   list-same zero before p near = refl
   list-same (suc left) before p near =
       let few = near .few in
       let close = near .near in
-      rw (row-same p (length before) (omega arith)) (go (rowEntry s p (length before)) refl (list-same left))
+      rw (row-same p (length before) (omega arith)) (go (rowParsed s p (length before)) refl (list-same left))
     where
       go :
-          (a : Entry Job) → rowEntry s p (length before) ≡ a →
-          ((js : List Job) (q : Place) → Near js q → listFrom jobId (rowEntry front) (length front) left js q ≡ listFrom jobId (rowEntry s) (length s) left js q) →
-          follow jobId (rowEntry front) (length front) (listFrom jobId (rowEntry front) (length front) left) before p a ≡
-          follow jobId (rowEntry s) (length s) (listFrom jobId (rowEntry s) (length s) left) before p a
+          (a : Parsed Job) → rowParsed s p (length before) ≡ a →
+          ((js : List Job) (q : Place) → Near js q → listFrom jobId (rowParsed front) (length front) left js q ≡ listFrom jobId (rowParsed s) (length s) left js q) →
+          follow jobId (rowParsed front) (length front) (listFrom jobId (rowParsed front) (length front) left) before p a ≡
+          follow jobId (rowParsed s) (length s) (listFrom jobId (rowParsed s) (length s) left) before p a
       go (one j next) e on =
           ap (λ (o : Outcome (List Job)). cond (used (map jobId before) (jobId j)) (refused (Twice p)) o)
           (on (before ++ (j ∷ [])) next (near-next near (row-is s p (length before) e)))

@@ -31,11 +31,11 @@ abbrev pub jobWith : List Job → ℕ → Job
 jobWith js id = orNone (jobOf js id)
 
 -- a step with its job
-abbrev pub chosenBy : List Job → Step → Chosen
-chosenBy js x = chosen (jobWith js (x .id)) (x .away)
+abbrev pub withJob : List Job → Step → Chosen
+withJob js x = chosen (jobWith js (x .id)) (x .away)
 
 abbrev pub chosenFor : List Job → List Step → List Chosen
-chosenFor js xs = map (chosenBy js) xs
+chosenFor js xs = map (withJob js) xs
 
 abbrev pub placed : Job → Bool → ℕ → Placed
 placed j away start = record { what = chosen j away; start = start }

@@ -1,4 +1,4 @@
--- A choice as flags by table position, and its mask: bit k is the flag at the k-th place in away order.
+-- A choice as flags by table position, and its mask: bit k is the flag at the k-th position in away order.
 -- Assumes nothing.
 use mathlib.Core.Path.{_≡_, refl, sym, ap, subst, _∙_}
 use mathlib.Core.Bool.{Bool, true, false, cond, not, _||_, false≢true}
@@ -14,9 +14,9 @@ use Rattle.model.specs.Lists.{All, Pairwise}
 use Rattle.model.specs.Timetable.{isEither, Chosen, Allowed}
 use Rattle.model.specs.FreeOrder.{Choice, awayOrder}
 use Rattle.model.specs.Recurrence.{mask, maskOf}
-use Rattle.model.specs.Positions.{noChoice, canGoAt, places, ofDigits, digits, marked, choose}
+use Rattle.model.specs.Positions.{noChoice, canGoAt, positions, ofDigits, digits, marked, choose}
 use Rattle.model.proofs.Lists.{all-map}
-use Rattle.model.proofs.Places.{order-places, places-below}
+use Rattle.model.proofs.Positions.{order-positions, positions-below}
 
 mask-snoc : (xs : List Chosen) (x : Chosen) → mask (xs ++ (x ∷ [])) ≡ cond (x .away) 1 0 + 2 * mask xs
 mask-snoc [] x = refl
@@ -35,10 +35,10 @@ mask-reverse [] = refl
 mask-reverse (x ∷ xs) = ap mask (reverse-cons x xs) ∙ mask-snoc (reverse xs) x ∙ ap (λ (n : ℕ). cond (x .away) 1 0 + 2 * n) (mask-reverse xs)
 
 -- the mask of a choice, by table positions
-pub mask-places : (js : List Job) (cs : List Chosen) → Choice js cs → maskOf cs ≡ ofDigits (map (λ (i : ℕ). (getD cs i noChoice) .away) (places js))
-mask-places js cs c =
-    mask-reverse (awayOrder cs) ∙ ap (λ (l : List Chosen). ofDigits (map (λ (x : Chosen). x .away) l)) (order-places js cs c)
-    ∙ ap ofDigits (map-map (places js))
+pub mask-positions : (js : List Job) (cs : List Chosen) → Choice js cs → maskOf cs ≡ ofDigits (map (λ (i : ℕ). (getD cs i noChoice) .away) (positions js))
+mask-positions js cs c =
+    mask-reverse (awayOrder cs) ∙ ap (λ (l : List Chosen). ofDigits (map (λ (x : Chosen). x .away) l)) (order-positions js cs c)
+    ∙ ap ofDigits (map-map (positions js))
   where
     map-map : (is : List ℕ) → map (λ (x : Chosen). x .away) (map (λ (i : ℕ). getD cs i noChoice) is) ≡ map (λ (i : ℕ). (getD cs i noChoice) .away) is
     map-map [] = refl
@@ -57,7 +57,7 @@ marked-other [] bs fs i h = refl
 marked-other (k ∷ is) [] fs i h = refl
 marked-other (k ∷ is) (b ∷ bs) fs i h = marked-other is bs (set fs k b) i (h .1) ∙ getD-set-other fs k i b false (h .0)
 
--- distinct places read back what was written
+-- distinct positions read back what was written
 pub marked-read : (is : List ℕ) (bs fs : List Bool) → length is ≡ length bs → Pairwise (λ (i k : ℕ). ¬ (i ≡ k)) is → All (λ (i : ℕ). i < length fs) is
     → map (λ (i : ℕ). getD (marked is bs fs) i false) is ≡ bs
 marked-read [] [] fs e d h = refl
@@ -102,7 +102,7 @@ choose-away (j ∷ js) [] (suc i) h = choose-away js [] i (omega arith)
 choose-away (j ∷ js) (f ∷ fs) zero h = refl
 choose-away (j ∷ js) (f ∷ fs) (suc i) h = choose-away js fs i (omega arith)
 
--- the flags along the places are those of the choice
+-- the flags along the positions are those of the choice
 along : (js : List Job) (fs : List Bool) (is : List ℕ) → All (λ (i : ℕ). i < length js) is
     → map (λ (i : ℕ). (getD (choose js fs) i noChoice) .away) is ≡ map (λ (i : ℕ). getD fs i false) is
 along js fs [] h = refl
@@ -111,10 +111,10 @@ along js fs (i ∷ is) h =
     let q : map (λ (i : ℕ). (getD (choose js fs) i noChoice) .away) is ≡ map (λ (i : ℕ). getD fs i false) is = along js fs is (h .1) in
     cc
 
--- the choice whose flags along the places are the mask's digits has that mask
+-- the choice whose flags along the positions are the mask's digits has that mask
 pub choose-mask : (js : List Job) (fs : List Bool) (m : ℕ) → ((i : ℕ) → getD fs i false ≡ true → T (canGoAt js i))
-    → map (λ (i : ℕ). getD fs i false) (places js) ≡ digits (length (places js)) m → m < 2 ^ length (places js) → maskOf (choose js fs) ≡ m
+    → map (λ (i : ℕ). getD fs i false) (positions js) ≡ digits (length (positions js)) m → m < 2 ^ length (positions js) → maskOf (choose js fs) ≡ m
 choose-mask js fs m a e h =
-    mask-places js (choose js fs) (choose-choice js fs a)
-    ∙ ap ofDigits (along js fs (places js) (places-below js) ∙ e)
-    ∙ of-digits (length (places js)) m h
+    mask-positions js (choose js fs) (choose-choice js fs a)
+    ∙ ap ofDigits (along js fs (positions js) (positions-below js) ∙ e)
+    ∙ of-digits (length (positions js)) m h

@@ -16,14 +16,14 @@ use Rattle.model.specs.Lists.{All}
 use Rattle.model.specs.Timetable.{Chosen, Met}
 use Rattle.model.specs.FreeOrder.{Choice, awayOrder, plan, busy, Best}
 use Rattle.model.specs.Recurrence.{Cell, empty, cell, answer, maskOf}
-use Rattle.model.specs.Positions.{noChoice, canGoAt, places, digits, marked, choiceOf, planFound, free}
+use Rattle.model.specs.Positions.{noChoice, canGoAt, positions, digits, marked, choiceOf, planFound, free}
 use Rattle.model.proofs.Lists.{clash, all-map}
 use Rattle.model.proofs.Workable.{mask-lt}
 use Rattle.model.proofs.Best.{answer-best, best-by-mask, none-iff-no-timetable, best-unique}
-use Rattle.model.proofs.Places.{order-places, places-distinct, places-below, places-either}
+use Rattle.model.proofs.Positions.{order-positions, positions-distinct, positions-below, positions-either}
 use Rattle.model.proofs.Flags.{marked-read, choose-choice, choose-mask}
 
--- a flag is set only at a place, or where it was set before
+-- a flag is set only at a position, or where it was set before
 marked-only : (P : ℕ → Type 0) (is : List ℕ) (bs fs : List Bool) → All P is → ((i : ℕ) → getD fs i false ≡ true → P i)
     → (i : ℕ) → getD (marked is bs fs) i false ≡ true → P i
 marked-only P [] bs fs a f i e = f i e
@@ -46,28 +46,28 @@ digits-length zero m = refl
 digits-length (suc n) m = ap suc (digits-length n _)
 
 -- the mask of a choice has as many digits as there are either jobs
-pub mask-short : (js : List Job) (m : ℕ) (cs : List Chosen) → Choice js cs → maskOf cs ≡ m → m < 2 ^ length (places js)
+pub mask-short : (js : List Job) (m : ℕ) (cs : List Chosen) → Choice js cs → maskOf cs ≡ m → m < 2 ^ length (positions js)
 mask-short js m cs c q =
-    let n : length (reverse (awayOrder cs)) ≡ length (places js) =
-    length-reverse (awayOrder cs) ∙ ap length (order-places js cs c) ∙ length-map (places js) (λ (i : ℕ). getD cs i noChoice) in
+    let n : length (reverse (awayOrder cs)) ≡ length (positions js) =
+    length-reverse (awayOrder cs) ∙ ap length (order-positions js cs c) ∙ length-map (positions js) (λ (i : ℕ). getD cs i noChoice) in
     omega (arith, mask-lt (reverse (awayOrder cs)), ap (λ (k : ℕ). 2 ^ k) n)
 
 module _ (room : ℕ) (js : List Job) (fits : length js ≤ room) where
   -- a mask of as many digits as there are either jobs stands for a choice, whose mask it is
-  pub mask-choice : (m : ℕ) → m < 2 ^ length (places js) → Choice js (choiceOf room js m) × (maskOf (choiceOf room js m) ≡ m)
+  pub mask-choice : (m : ℕ) → m < 2 ^ length (positions js) → Choice js (choiceOf room js m) × (maskOf (choiceOf room js m) ≡ m)
   mask-choice m h = (
     choose-choice js flags goes,
     choose-mask js flags m goes
-        (marked-read (places js) (digits (length (places js)) m) (replicate room false) (sym (digits-length (length (places js)) m)) (places-distinct js)
-        (all-map (λ (i : ℕ) (l : i < length js). omega (arith, length-replicate room false)) (places js) (places-below js))) h,
+        (marked-read (positions js) (digits (length (positions js)) m) (replicate room false) (sym (digits-length (length (positions js)) m)) (positions-distinct js)
+        (all-map (λ (i : ℕ) (l : i < length js). omega (arith, length-replicate room false)) (positions js) (positions-below js))) h,
   )
     where
       flags : List Bool
-      flags = marked (places js) (digits (length (places js)) m) (replicate room false)
+      flags = marked (positions js) (digits (length (positions js)) m) (replicate room false)
 
       goes : (i : ℕ) → getD flags i false ≡ true → T (canGoAt js i)
       goes i e =
-          marked-only (λ (k : ℕ). T (canGoAt js k)) (places js) (digits (length (places js)) m) (replicate room false) (places-either js)
+          marked-only (λ (k : ℕ). T (canGoAt js k)) (positions js) (digits (length (positions js)) m) (replicate room false) (positions-either js)
           (λ k g. absurd (no-flag room k g)) i e
 
   module _ (D : ℕ) where
@@ -75,7 +75,7 @@ module _ (room : ℕ) (js : List Job) (fits : length js ≤ room) where
     pub answer-choice : (a m : ℕ) → answer D js ≡ cell a m → Best D js (choiceOf room js m) × (busy (choiceOf room js m) ≡ a)
     answer-choice a m e =
         let r = answer-best D js a m e in
-        let short : m < 2 ^ length (places js) = mask-short js m (r .0) (r .1 .choice) (r .3) in
+        let short : m < 2 ^ length (positions js) = mask-short js m (r .0) (r .1 .choice) (r .3) in
         let c = mask-choice m short in
         let b : Best D js (choiceOf room js m) = best-by-mask D js a m (choiceOf room js m) e (c .0) (c .1) in
         (b, ap busy (best-unique D js (choiceOf room js m) (r .0) b (r .1)) ∙ r .2)

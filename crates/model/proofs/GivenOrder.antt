@@ -119,14 +119,14 @@ pub given-on : (D t : ℕ) (j : Job) (js : List Job) (c : Chosen) → decide D t
 given-on D t j js c e =
     ap (λ (o : Option Chosen). elim o as (λ (x : Option Chosen). Option (List Chosen)) [ none ↦ none | some x ↦ put x (given D (t + span x) js) ]) e
 
-pub record Found (D t : ℕ) (ds : List Chosen) : Type 0 where
+pub record Greedy (D t : ℕ) (ds : List Chosen) : Type 0 where
   pub cs : List Chosen
   pub is : given D t (jobs ds) ≡ some cs
   pub less : busy cs ≤ busy ds
   pub tie : busy cs ≡ busy ds → KeepsAll cs ds
 
 -- from an earlier t the algorithm finds a plan that is no busier
-greedy : (D t u : ℕ) (ds : List Chosen) → t ≤ u → All Allowed ds → Fits D u ds → Found D t ds
+greedy : (D t u : ℕ) (ds : List Chosen) → t ≤ u → All Allowed ds → Fits D u ds → Greedy D t ds
 greedy D t u [] h a f = record { cs = []; is = refl; less = omega arith; tie = λ e. tt }
 greedy D t u (d ∷ ds) h a f =
     let b = beats D t u d h (a .0) (f .0) in

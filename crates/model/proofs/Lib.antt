@@ -1,3 +1,4 @@
+pub mod Tests
 pub mod Lists
 pub mod Permutations
 pub mod Sorts
@@ -13,7 +14,7 @@ pub mod Best
 pub mod LeastDeadline
 pub mod GivenOrder
 pub mod Runs
-pub mod Places
+pub mod Positions
 pub mod Flags
 pub mod Free
 pub mod Bounds

@@ -64,12 +64,6 @@ module _ {A : Type 0} where
   all-members [] = tt
   all-members (x ∷ xs) = (List·Memᴰ·head refl, all-map (λ y m. List·Memᴰ·tail m) xs (all-members xs))
 
-  pub take-all : (xs : List A) (i : ℕ) → length xs ≤ i → take i xs ≡ xs
-  take-all [] zero h = refl
-  take-all [] (suc i) h = refl
-  take-all (x ∷ xs) zero h = absurd (omega arith)
-  take-all (x ∷ xs) (suc i) h = ap (λ (l : List A). x ∷ l) (take-all xs i (omega arith))
-
   -- below a list's length the default does not matter
   pub at-any : (xs : List A) (k : ℕ) (d e : A) → k < length xs → getD xs k d ≡ getD xs k e
   at-any [] k d e h = absurd (omega arith)

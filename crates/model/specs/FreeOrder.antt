@@ -58,7 +58,7 @@ spans ps = total (λ (p : Placed). span (p .what)) ps
 abbrev pub fromLast : List Chosen → List Bool
 fromLast cs = map isAway (reverse (awayOrder cs))
 
--- at the first place where the two differ, the first one has the job here; or they do not differ
+-- at the first position where the two differ, the first one has the job here; or they do not differ
 abbrev pub Keeps : List Bool → List Bool → Type 0
 Keeps [] ys = Unit {0}
 Keeps (a ∷ xs) [] = Unit {0}

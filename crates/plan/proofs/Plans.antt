@@ -23,7 +23,7 @@ use Rattle.table.proofs.ReadBack.{kind-byte, long}
 use Rattle.table.proofs.Listed.{Distinct, listed-good, listed-bytes, listed-back}
 use Rattle.plan.specs.declared.Step.{Step}
 use Rattle.plan.specs.declared.RecordRead.the-variants.{RecordRefused}
-use Rattle.plan.specs.Plans.{stepBody, recordAt, stepEntry, stepId, readPlan, stepBytes, planBytes, noStep, stepAt}
+use Rattle.plan.specs.Plans.{stepBody, recordAt, stepParsed, stepId, readPlan, stepBytes, planBytes, noStep, stepAt}
 use Rattle.plan.proofs.Steps.{planEntry, step-read, end-read, plan-length}
 
 -- the bytes of a plan are those of its steps, and then the end record's
@@ -97,11 +97,11 @@ module _ (s : List ℕ) (p : Place) (n : ℕ) where
       go :
           (away : Bool) → drop (p .at) s ≡ cond away sendAway runHere ∷ x .id ∷ rest →
           planEntry s p n ≡ one (record { id = x .id; away = away }) (past p 1)
-      go true b = ap stepEntry (opens AwayStep (x .id ∷ rest) b (omega arith)) ∙ simp (lt-ltb n mostJobs few, byte-from s (p .at) _ b 1)
-      go false b = ap stepEntry (opens HereStep (x .id ∷ rest) b (omega arith)) ∙ simp (lt-ltb n mostJobs few, byte-from s (p .at) _ b 1)
+      go true b = ap stepParsed (opens AwayStep (x .id ∷ rest) b (omega arith)) ∙ simp (lt-ltb n mostJobs few, byte-from s (p .at) _ b 1)
+      go false b = ap stepParsed (opens HereStep (x .id ∷ rest) b (omega arith)) ∙ simp (lt-ltb n mostJobs few, byte-from s (p .at) _ b 1)
 
   pub end-back : (more : List ℕ) → drop (p .at) s ≡ planEnd ∷ more → planEntry s p n ≡ last (past p 0)
-  end-back more e = ap stepEntry (opens EndStep more e (omega arith))
+  end-back more e = ap stepParsed (opens EndStep more e (omega arith))
 
 -- a plan that is written reads back as the same plan
 pub plan-back : (xs : List Step) → length xs ≤ mostJobs → Distinct stepId xs → readPlan (planBytes xs) ≡ accepted xs

@@ -21,18 +21,19 @@ use Rattle.table.specs.declared.kind.StepKind.the-variants.{HereStep, AwayStep,
 use Rattle.table.specs.Limits.{mostJobs}
 use Rattle.table.specs.Refusals.{past, accepted, refused}
 use Rattle.table.specs.Kinds.{runHere, sendAway, planEnd}
-use Rattle.table.specs.Records.{stepOnly, Entry, one, last}
-use Rattle.table.proofs.Records.{stepByte, stepLength, cond-all, step-kind, is-step, judged-all}
+use Rattle.table.specs.Records.{stepOnly, Parsed, one, last}
+use Rattle.model.proofs.Tests.{cond-all}
+use Rattle.table.proofs.Records.{stepByte, stepLength, step-kind, is-step, judged-all}
 use Rattle.table.proofs.Listed.{padded-more}
 use Rattle.plan.specs.declared.Step.{Step}
 use Rattle.plan.specs.declared.Record.the-variants.{Listed, Last}
 use Rattle.plan.specs.declared.RecordRead.{RecordRead}
 use Rattle.plan.specs.declared.RecordRead.the-variants.{RecordIs, RecordRefused}
-use Rattle.plan.specs.Plans.{stepBody, recordAt, stepEntry, planRead, endedAt, stepBytes, planBytes, noStep, planOf, stepsOf, withStep, stepOf, stepsFor}
+use Rattle.plan.specs.Plans.{stepBody, recordAt, stepParsed, planRead, endedAt, stepBytes, planBytes, noStep, planOf, stepsOf, withStep, stepOf, stepsFor}
 
 -- the reading of one record of a plan
-abbrev pub planEntry : List ℕ → Place → ℕ → Entry Step
-planEntry s p n = stepEntry (recordAt s p n)
+abbrev pub planEntry : List ℕ → Place → ℕ → Parsed Step
+planEntry s p n = stepParsed (recordAt s p n)
 
 -- What holds of every refusal, of each whole step and of the end holds of the record at a place.
 module _
@@ -65,7 +66,7 @@ pub step-read :
     (s : List ℕ) (p : Place) (n : ℕ) (x : Step) (next : Place) → planEntry s p n ≡ one x next →
     (n < mostJobs) × (drop (p .at) s ≡ stepBytes x ++ drop (next .at) s)
 step-read s p n x next =
-    record-all s p n (λ (a : RecordRead). stepEntry a ≡ one x next → (n < mostJobs) × (drop (p .at) s ≡ stepBytes x ++ drop (next .at) s))
+    record-all s p n (λ (a : RecordRead). stepParsed a ≡ one x next → (n < mostJobs) × (drop (p .at) s ≡ stepBytes x ++ drop (next .at) s))
     (λ f e. clash (cc))
     (λ away b h few e.
     let is : record { id = getD s (p .at + 1) 0; away = away } ≡ x = cc in
@@ -76,7 +77,7 @@ step-read s p n x next =
 pub end-read :
     (s : List ℕ) (p : Place) (n : ℕ) (next : Place) → planEntry s p n ≡ last next → drop (p .at) s ≡ (planEnd ∷ []) ++ drop (next .at) s
 end-read s p n next =
-    record-all s p n (λ (a : RecordRead). stepEntry a ≡ last next → drop (p .at) s ≡ (planEnd ∷ []) ++ drop (next .at) s)
+    record-all s p n (λ (a : RecordRead). stepParsed a ≡ last next → drop (p .at) s ≡ (planEnd ∷ []) ++ drop (next .at) s)
     (λ f e. clash (cc))
     (λ away b h few e. clash (cc))
     (λ b h e. let after : past p 0 ≡ next = cc in rw (← after, ← b, add-zero) (one-byte s (p .at) (omega arith)))

@@ -14,7 +14,7 @@ use Rattle.table.specs.declared.kind.StepKind.the-variants.{HereStep, AwayStep,
 use Rattle.table.specs.Limits.{mostJobs}
 use Rattle.table.specs.Refusals.{start, refusalSays, Outcome, accepted, refused}
 use Rattle.table.specs.Kinds.{runHere, sendAway, planEnd}
-use Rattle.table.specs.Records.{stepOnly, judged, Entry, one, last, bad, listFrom}
+use Rattle.table.specs.Records.{stepOnly, judged, Parsed, one, last, bad, listFrom}
 use Rattle.plan.specs.declared.Step.{Step}
 use Rattle.plan.specs.declared.Record.the-variants.{Listed, Last}
 use Rattle.plan.specs.declared.RecordRead.{RecordRead}
@@ -40,16 +40,16 @@ unfoldable pub recordAt : List ℕ → Place → ℕ → RecordRead
 recordAt s p count = judged RecordRefused (stepBody s p count) stepOnly s p
 
 -- a record's answer as the reading of one record
-abbrev pub stepEntry : RecordRead → Entry Step
-stepEntry (RecordIs (Listed x next)) = one x next
-stepEntry (RecordIs (Last next)) = last next
-stepEntry (RecordRefused f) = bad f
+abbrev pub stepParsed : RecordRead → Parsed Step
+stepParsed (RecordIs (Listed x next)) = one x next
+stepParsed (RecordIs (Last next)) = last next
+stepParsed (RecordRefused f) = bad f
 
 abbrev pub stepId : Step → ℕ
 stepId x = x .id
 
 unfoldable pub readPlan : List ℕ → Outcome (List Step)
-readPlan s = listFrom stepId (λ (p : Place) (count : ℕ). stepEntry (recordAt s p count)) (length s) (suc mostJobs) [] start
+readPlan s = listFrom stepId (λ (p : Place) (count : ℕ). stepParsed (recordAt s p count)) (length s) (suc mostJobs) [] start
 
 -- what `read_plan` answers: how many steps, or the refusal
 abbrev pub planRead : Outcome (List Step) → PlanRead

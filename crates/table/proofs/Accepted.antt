@@ -17,7 +17,7 @@ use Rattle.table.specs.Refusals.{start, past, Outcome, accepted, refused
 use Rattle.table.specs.Records.{one}
 use Rattle.table.specs.Tables.{JobTable, TimesOk, GoodTable, jobId, jobsRead, withDeadline, afterFrame, readTable, Sound, jobTable, tableOf}
 use Rattle.table.proofs.Listed.{listed-all, listed-good}
-use Rattle.table.proofs.Tables.{frame-all, rowEntry, RowIs, row-here, row-either, row-is, row-few}
+use Rattle.table.proofs.Tables.{frame-all, rowParsed, RowIs, row-here, row-either, row-is, row-few}
 
 -- what an accepted byte string tells of its table: the deadline is in range, and the jobs behind the frame record are accepted
 pub record Read (s : List ℕ) (t : JobTable) : Type 0 where
@@ -50,9 +50,9 @@ pub accepted-good : (s : List ℕ) (t : JobTable) → readTable s ≡ accepted t
 unfolding jobsRead
 accepted-good s t e =
     let r = accepted-read s t e in
-    let g = listed-good jobId (rowEntry s) (length s) (λ p n j next x. row-few (row-is s p n x)) (r .first) (t .jobs) (r .jobs) in
+    let g = listed-good jobId (rowParsed s) (length s) (λ p n j next x. row-few (row-is s p n x)) (r .first) (t .jobs) (r .jobs) in
     let times =
-    listed-all jobId (rowEntry s) (length s) (λ (js : List Job) (p : Place). All (TimesOk largestTime) js) (All (TimesOk largestTime))
+    listed-all jobId (rowParsed s) (length s) (λ (js : List Job) (p : Place). All (TimesOk largestTime) js) (All (TimesOk largestTime))
     (λ js p j next ok x new. all-append (TimesOk largestTime) js (j ∷ []) ok (row-times (row-is s p (length js) x), tt))
     (λ js p next ok x end. ok)
     (suc mostJobs) [] (r .first) tt (t .jobs) (r .jobs) in

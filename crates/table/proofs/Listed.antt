@@ -16,7 +16,7 @@ use Rattle.table.specs.declared.refusal.Refusal.{Refusal}
 use Rattle.table.specs.declared.refusal.Refusal.the-variants.{Twice, After}
 use Rattle.table.specs.Limits.{mostJobs}
 use Rattle.table.specs.Refusals.{past, Outcome, accepted, refused}
-use Rattle.table.specs.Records.{Entry, one, last, bad, used, follow, listFrom}
+use Rattle.table.specs.Records.{Parsed, one, last, bad, used, follow, listFrom}
 
 -- one more id
 used-more : (is : List ℕ) (i id : ℕ) → used (is ++ (i ∷ [])) id ≡ (used is id || eqb i id)
@@ -101,7 +101,7 @@ module _ {A : Type 0} (idOf : A → ℕ) where
   differs-unused [] id h = refl
   differs-unused (x ∷ xs) id h = rw (ne-eqb (idOf x) id (h .0), differs-unused xs id (h .1))
 
-module _ {A : Type 0} (idOf : A → ℕ) (entryAt : Place → ℕ → Entry A) (size : ℕ) where
+module _ {A : Type 0} (idOf : A → ℕ) (entryAt : Place → ℕ → Parsed A) (size : ℕ) where
   -- one record more
   pub list-step :
       (xs : List A) (p : Place) → length xs ≤ mostJobs →
@@ -126,7 +126,7 @@ module _ {A : Type 0} (idOf : A → ℕ) (entryAt : Place → ℕ → Entry A) (
   module _ {first : Place} {xs : List A} {count : ℕ} {seen : List Bool} {p : Place} (so : SoFar first xs count seen p) where
     -- the record at the place, and what it leads to
     leads :
-        {a : Entry A} → entryAt p count ≡ a →
+        {a : Parsed A} → entryAt p count ≡ a →
         follow idOf entryAt size (listFrom idOf entryAt size (mostJobs - length xs)) xs p a ≡ listFrom idOf entryAt size (suc mostJobs) [] first
     leads e = rw (← e, so .counted) (sym (list-step xs p (so .few)) ∙ so .rest)
 
@@ -169,7 +169,7 @@ module _ {A : Type 0} (idOf : A → ℕ) (entryAt : Place → ℕ → Entry A) (
   listed-all I Q more end (suc left) before p i xs e = read (entryAt p (length before)) refl e (λ ys next j. listed-all I Q more end left ys next j xs)
     where
       read :
-          (a : Entry A) → entryAt p (length before) ≡ a →
+          (a : Parsed A) → entryAt p (length before) ≡ a →
           follow idOf entryAt size (listFrom idOf entryAt size left) before p a ≡ accepted xs →
           ((ys : List A) (next : Place) → I ys next → listFrom idOf entryAt size left ys next ≡ accepted xs → Q xs) → Q xs
       read (one x next) a e on = step (used (map idOf before) (idOf x)) refl e
@@ -223,7 +223,7 @@ over-all-drop s bytesOf any (x ∷ xs) p rest e =
     (over-drop s p (bytesOf x) (flatMap bytesOf xs ++ rest) (any x) (e ∙ append-assoc (bytesOf x) (flatMap bytesOf xs) rest))
 
 -- The bytes of a list: of each that is listed, in order, and of the end record, where each kind of record tells its bytes.
-module _ {A : Type 0} (idOf : A → ℕ) (s : List ℕ) (entryAt : Place → ℕ → Entry A) (bytesOf : A → List ℕ) where
+module _ {A : Type 0} (idOf : A → ℕ) (s : List ℕ) (entryAt : Place → ℕ → Parsed A) (bytesOf : A → List ℕ) where
   -- an accepted list stands in s, from `first` on, and nothing after it
   pub listed-bytes :
       (endBytes : List ℕ) →

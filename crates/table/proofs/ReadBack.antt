@@ -21,11 +21,11 @@ use Rattle.table.specs.Limits.{mostJobs, largestTime}
 use Rattle.table.specs.Refusals.{start, past, accepted}
 use Rattle.table.specs.Kinds.{tableEnd}
 use Rattle.table.specs.Records.{formOf, frameOnly, rowOnly, one, last}
-use Rattle.table.specs.Tables.{JobTable, TimesOk, GoodTable, deadlineAt, frameAt, rowBody, jobAt, jobEntry, jobId, jobsRead, readTable, sendingBytes}
+use Rattle.table.specs.Tables.{JobTable, TimesOk, GoodTable, deadlineAt, frameAt, rowBody, jobAt, jobParsed, jobId, jobsRead, readTable, sendingBytes}
 use Rattle.table.specs.Tables.{jobBytes, tableBytes}
 use Rattle.table.proofs.Records.{rowByte, rowLength, frame-form, row-form, opened}
 use Rattle.table.proofs.Listed.{over, listed-back}
-use Rattle.table.proofs.Tables.{rowEntry}
+use Rattle.table.proofs.Tables.{rowParsed}
 use Rattle.table.proofs.Written.{jobs-flat}
 
 -- What the bytes `l` from a place on say of the whole: its bytes and words there, and its length.
@@ -38,10 +38,10 @@ module _ (s : List ℕ) (p : Place) (l : List ℕ) (from : drop (p .at) s ≡ l)
 
   -- a whole row is read
   pub row-open :
-      (n : ℕ) (k : RowKind) → getD l 0 0 ≡ rowByte k → 1 + rowLength k ≤ length l → rowEntry s p n ≡ jobEntry (rowBody s p n (past p (rowLength k)) k)
+      (n : ℕ) (k : RowKind) → getD l 0 0 ≡ rowByte k → 1 + rowLength k ≤ length l → rowParsed s p n ≡ jobParsed (rowBody s p n (past p (rowLength k)) k)
   unfolding jobAt
   row-open n k b h =
-      ap jobEntry
+      ap jobParsed
       (opened JobRefused (rowBody s p n) rowOnly s p (sym (ap formOf (kind-byte ∙ b) ∙ row-form k)) (omega (arith, long)) k refl (omega (arith, long)))
 
 -- a job's record has bytes
@@ -56,7 +56,7 @@ job-any j = go (j .sending)
 pub job-back :
     (s : List ℕ) (p : Place) (n : ℕ) (rest : List ℕ) (id C : ℕ) (d : Sending) →
     let j : Job = record { id = id; local = C; sending = d } in
-    drop (p .at) s ≡ sendingBytes id C d ++ rest → TimesOk largestTime j → n < mostJobs → rowEntry s p n ≡ one j (over p (sendingBytes id C d))
+    drop (p .at) s ≡ sendingBytes id C d ++ rest → TimesOk largestTime j → n < mostJobs → rowParsed s p n ≡ one j (over p (sendingBytes id C d))
 job-back s p n rest id C HereOnly from ok few =
     let l = sendingBytes id C HereOnly ++ rest in
     row-open s p l from n HereRow refl (omega arith) ∙
@@ -78,7 +78,7 @@ job-back s p n rest id C (Either S I) from ok few =
       le-leb _ _ (ok .back),
     )
 
-pub end-back : (s : List ℕ) (p : Place) (n : ℕ) (more : List ℕ) → drop (p .at) s ≡ tableEnd ∷ more → rowEntry s p n ≡ last (past p 0)
+pub end-back : (s : List ℕ) (p : Place) (n : ℕ) (more : List ℕ) → drop (p .at) s ≡ tableEnd ∷ more → rowParsed s p n ≡ last (past p 0)
 end-back s p n more from = row-open s p (tableEnd ∷ more) from n EndRow refl (omega arith)
 
 frame-back : (t : JobTable) → GoodTable t → frameAt (tableBytes t) start ≡ FrameIs (t .deadline) (past start 2)
@@ -94,7 +94,7 @@ bytes-read t good =
     let s = tableBytes t in
     rw (
       frame-back t good,
-      listed-back jobId s (rowEntry s) jobBytes (TimesOk largestTime) job-any
+      listed-back jobId s (rowParsed s) jobBytes (TimesOk largestTime) job-any
           (λ p n j rest from few ok. job-back s p n rest (j .id) (j .local) (j .sending) from ok few) tableEnd (end-back s)
           (past start 2) (t .jobs) (good .few) (good .distinct) (good .times) (jobs-flat (t .jobs)),
     )

@@ -8,6 +8,7 @@ use mathlib.Core.Option.{Option, none, some}
 use lib.ListN.{length, getD}
 use lib.Dec.{ltb, leb, eqb}
 use borrow.Author.Tests.{ltb-true, leb-true, eqb-true, lt-ltb, le-ltb, le-leb, lt-leb}
+use Rattle.model.proofs.Tests.{cond-all}
 use Rattle.table.specs.declared.refusal.Place.{Place}
 use Rattle.table.specs.declared.refusal.Refusal.{Refusal}
 use Rattle.table.specs.declared.refusal.Refusal.the-variants.{Short, Kind}
@@ -42,11 +43,6 @@ abbrev pub stepLength : StepKind → ℕ
 stepLength HereStep = 1
 stepLength AwayStep = 1
 stepLength EndStep = 0
-
--- what holds of both branches holds of what a test picks
-pub cond-all : {A : Type 0} (P : A → Type 0) (t : Bool) {x y : A} → (t ≡ true → P x) → (t ≡ false → P y) → P (cond t x y)
-cond-all P true f g = f refl
-cond-all P false f g = g refl
 
 -- what holds of each line of the table of kinds holds of every byte and its form
 pub form-all :

@@ -12,6 +12,7 @@ use Rattle.model.specs.declared.Job.{Job}
 use Rattle.model.specs.Positions.{noJob}
 use Rattle.model.proofs.Lists.{clash}
 use Rattle.bytes.specs.Numbers.{twoAt}
+use Rattle.model.proofs.Tests.{cond-all, both}
 use Rattle.table.specs.declared.refusal.Place.{Place}
 use Rattle.table.specs.declared.refusal.Refusal.{Refusal}
 use Rattle.table.specs.declared.refusal.Refusal.the-variants.{After}
@@ -28,15 +29,11 @@ use Rattle.table.specs.declared.TableVerdict.the-variants.{Whole, Refuse
 use Rattle.table.specs.Limits.{mostJobs, largestTime}
 use Rattle.table.specs.Refusals.{past, Outcome, accepted, refused}
 use Rattle.table.specs.Kinds.{frameKind, hereKind, eitherKind, tableEnd}
-use Rattle.table.specs.Records.{frameOnly, rowOnly, Entry, one, last, bad}
-use Rattle.table.specs.Tables.{timeOk, deadlineAt, frameAt, hereAt, eitherAt, rowBody, jobAt, jobEntry, withDeadline, tableOf, tableRead, emptyTable}
+use Rattle.table.specs.Records.{frameOnly, rowOnly, Parsed, one, last, bad}
+use Rattle.table.specs.Tables.{timeOk, deadlineAt, frameAt, hereAt, eitherAt, rowBody, jobAt, jobParsed, withDeadline, tableOf, tableRead, emptyTable}
 use Rattle.table.specs.Tables.{JobTable, endVerdict, isWhole}
-use Rattle.table.proofs.Records.{rowByte, rowLength, cond-all, frame-kind, row-kind, is-frame, is-row, judged-all}
+use Rattle.table.proofs.Records.{rowByte, rowLength, frame-kind, row-kind, is-frame, is-row, judged-all}
 use Rattle.table.proofs.Listed.{padded-more}
-
-pub both : (a b : Bool) → (a && b) ≡ true → (a ≡ true) × (b ≡ true)
-both true b e = (refl, e)
-both false b e = (cc, cc)
 
 -- what holds of every refusal and of a whole frame record holds of the first record
 pub frame-all :
@@ -58,11 +55,11 @@ frame-all s p P out frame =
     (λ e. out _)))
 
 -- the reading of one record after the first
-abbrev pub rowEntry : List ℕ → Place → ℕ → Entry Job
-rowEntry s p n = jobEntry (jobAt s p n)
+abbrev pub rowParsed : List ℕ → Place → ℕ → Parsed Job
+rowParsed s p n = jobParsed (jobAt s p n)
 
 -- What it comes to, and what that tells: a job is whole, with its times in range, and there is room for it beside the n before.
-pub data RowIs (s : List ℕ) (p : Place) (n : ℕ) : Entry Job → Type 0 where
+pub data RowIs (s : List ℕ) (p : Place) (n : ℕ) : Parsed Job → Type 0 where
   row-here :
       getD s (p .at) 0 ≡ hereKind → past p 3 .at ≤ length s → n < mostJobs →
       twoAt s (p .at + 2) ≤ largestTime → RowIs s p n (one (hereAt s p) (past p 3))
@@ -75,7 +72,7 @@ pub data RowIs (s : List ℕ) (p : Place) (n : ℕ) : Entry Job → Type 0 where
 
 module _ (s : List ℕ) (p : Place) (n : ℕ) where
   abbrev Tells : JobRead → Type 0
-  Tells a = RowIs s p n (jobEntry a)
+  Tells a = RowIs s p n (jobParsed a)
 
   body-tells : (k : RowKind) → getD s (p .at) 0 ≡ rowByte k → past p (rowLength k) .at ≤ length s → Tells (rowBody s p n (past p (rowLength k)) k)
   body-tells HereRow b h =
@@ -94,7 +91,7 @@ module _ (s : List ℕ) (p : Place) (n : ℕ) where
       (λ o. row-out _)
   body-tells EndRow b h = row-end b h
 
-  pub row-is : {a : Entry Job} → rowEntry s p n ≡ a → RowIs s p n a
+  pub row-is : {a : Parsed Job} → rowParsed s p n ≡ a → RowIs s p n a
   unfolding jobAt
   row-is e =
       subst (RowIs s p n) e

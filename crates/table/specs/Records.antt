@@ -68,19 +68,19 @@ module _ {K R : Type 0} (refuse : Refusal → R) (read : Place → K → R) wher
 -- A file is a list of records, each with an id of its own, and an end record.
 
 -- what the reading of one record comes to: one more of what is listed, with the place after it; the end, with the place after it; or a refusal
-pub data Entry (A : Type 0) : Type 0 where
-  one : A → Place → Entry A
-  last : Place → Entry A
-  bad : Refusal → Entry A
+pub data Parsed (A : Type 0) : Type 0 where
+  one : A → Place → Parsed A
+  last : Place → Parsed A
+  bad : Refusal → Parsed A
 
 -- "id used before in the same file"
 unfoldable pub used : List ℕ → ℕ → Bool
 used [] id = false
 used (i ∷ is) id = eqb i id || used is id
 
-module _ {A : Type 0} (idOf : A → ℕ) (entryAt : Place → ℕ → Entry A) (size : ℕ) where
+module _ {A : Type 0} (idOf : A → ℕ) (entryAt : Place → ℕ → Parsed A) (size : ℕ) where
   -- what the record at `p` leads to, with what is listed before it: an id used before TWICE; "After the end record, AFTER"; `on` reads the records after it
-  abbrev pub follow : (List A → Place → Outcome (List A)) → List A → Place → Entry A → Outcome (List A)
+  abbrev pub follow : (List A → Place → Outcome (List A)) → List A → Place → Parsed A → Outcome (List A)
   follow on before p (one x next) = cond (used (map idOf before) (idOf x)) (refused (Twice p)) (on (before ++ (x ∷ [])) next)
   follow on before p (last next) = cond (leb size (next .at)) (accepted before) (refused (After next))
   follow on before p (bad f) = refused f

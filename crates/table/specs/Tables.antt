@@ -29,7 +29,7 @@ use Rattle.table.specs.declared.TableRead.{TableRead}
 use Rattle.table.specs.Limits.{mostJobs, largestTime}
 use Rattle.table.specs.Refusals.{start, refusalSays, Outcome, accepted, refused}
 use Rattle.table.specs.Kinds.{frameKind, hereKind, eitherKind, tableEnd}
-use Rattle.table.specs.Records.{frameOnly, rowOnly, judged, Entry, one, last, bad, listFrom}
+use Rattle.table.specs.Records.{frameOnly, rowOnly, judged, Parsed, one, last, bad, listFrom}
 
 -- What a table means: a deadline and its jobs.
 pub record JobTable : Type 0 where
@@ -83,17 +83,17 @@ unfoldable pub jobAt : List ℕ → Place → ℕ → JobRead
 jobAt s p count = judged JobRefused (rowBody s p count) rowOnly s p
 
 -- a record's answer as the reading of one record
-abbrev pub jobEntry : JobRead → Entry Job
-jobEntry (JobIs j next) = one j next
-jobEntry (JobsEnd next) = last next
-jobEntry (JobRefused f) = bad f
+abbrev pub jobParsed : JobRead → Parsed Job
+jobParsed (JobIs j next) = one j next
+jobParsed (JobsEnd next) = last next
+jobParsed (JobRefused f) = bad f
 
 abbrev pub jobId : Job → ℕ
 jobId j = j .id
 
 -- "0 to 32 jobs with distinct ids, one 0x1F, nothing after": the records from a place on, which is where the first one ends
 unfoldable pub jobsRead : List ℕ → Place → Outcome (List Job)
-jobsRead s = listFrom jobId (λ (p : Place) (count : ℕ). jobEntry (jobAt s p count)) (length s) (suc mostJobs) []
+jobsRead s = listFrom jobId (λ (p : Place) (count : ℕ). jobParsed (jobAt s p count)) (length s) (suc mostJobs) []
 
 -- the jobs, with the deadline beside them
 abbrev pub withDeadline : ℕ → Outcome (List Job) → Outcome JobTable

@@ -6,28 +6,28 @@ use Prim.Native.Nat.{_-_}
 use native.Mathlib.Omega.{arith}
 use lib.ListN.{take}
 use lib.Seq.{getD-take}
-use Rattle.choice.proofs.Held.{held-flags, ready-few, ready-place, ready-whole}
+use Rattle.choice.proofs.Held.{held-flags, ready-few, ready-position, ready-whole}
 use Rattle.choice.proofs.Loops.{Marking, marking-none, marking-more, marking-all}
 use Rattle.choice.proofs.flags_of.Statement.{statement}
 use Rattle.choice.proofs.flags_of.Tie as tie
 
 abbrev Inv-loop : tie.InvT-loop
-Inv-loop mask count places flags₀ left₀ k₀ flags left k = Marking (take count places) count mask flags left k
+Inv-loop mask count positions flags₀ left₀ k₀ flags left k = Marking (take count positions) count mask flags left k
 
 abbrev μ-loop : tie.MeasureT-loop
-μ-loop mask count places flags₀ left₀ k₀ flags left k = count - k
+μ-loop mask count positions flags₀ left₀ k₀ flags left k = count - k
 
 loop-holds : tie.Need-loop-holds Inv-loop μ-loop
 loop-holds c = marking-none _ _ _
 
-mul-place : tie.Need-mul-place Inv-loop μ-loop
-mul-place c = omega (arith, ready-few _ (c .before .before .before .pre))
+mul-position : tie.Need-mul-position Inv-loop μ-loop
+mul-position c = omega (arith, ready-few _ (c .before .before .before .pre))
 
-array-read-place : tie.Need-array-read-place Inv-loop μ-loop
-array-read-place c = omega (arith, ready-few _ (c .before .before .before .pre))
+array-read-position : tie.Need-array-read-position Inv-loop μ-loop
+array-read-position c = omega (arith, ready-few _ (c .before .before .before .pre))
 
 array-write-flags : tie.Need-array-write-flags Inv-loop μ-loop
-array-write-flags c = omega (arith, ready-place _ (c .before .before .before .pre) (c .before .loop .k) (c .loop-test .taken), c .before .loop .inv .size)
+array-write-flags c = omega (arith, ready-position _ (c .before .before .before .pre) (c .before .loop .k) (c .loop-test .taken), c .before .loop .inv .size)
 
 add-k : tie.Need-add-k Inv-loop μ-loop
 add-k c = search needs
@@ -52,8 +52,8 @@ flags-of-spec =
     Inv-loop
     μ-loop
     loop-holds
-    mul-place
-    array-read-place
+    mul-position
+    array-read-position
     array-write-flags
     add-k
     loop-less

@@ -14,19 +14,19 @@ use Rattle.choice.proofs.jobs_at.Statement.{statement}
 use Rattle.choice.proofs.jobs_at.Tie as tie
 
 abbrev Inv-loop : tie.InvT-loop
-Inv-loop count jobs places ordered₀ k₀ ordered k = (k ≤ count) × (ordered ≡ jobsAt jobs (take k places) ++ replicate (mostJobs - k) noJob)
+Inv-loop count jobs positions ordered₀ k₀ ordered k = (k ≤ count) × (ordered ≡ jobsAt jobs (take k positions) ++ replicate (mostJobs - k) noJob)
 
 abbrev μ-loop : tie.MeasureT-loop
-μ-loop count jobs places ordered₀ k₀ ordered k = count - k
+μ-loop count jobs positions ordered₀ k₀ ordered k = count - k
 
 loop-holds : tie.Need-loop-holds Inv-loop μ-loop
 loop-holds c = search needs
 
-mul-place : tie.Need-mul-place Inv-loop μ-loop
-mul-place c = search needs
+mul-position : tie.Need-mul-position Inv-loop μ-loop
+mul-position c = search needs
 
-array-read-place : tie.Need-array-read-place Inv-loop μ-loop
-array-read-place c = search needs
+array-read-position : tie.Need-array-read-position Inv-loop μ-loop
+array-read-position c = search needs
 
 mul-ordered : tie.Need-mul-ordered Inv-loop μ-loop
 mul-ordered c = omega (arith, c .before .before .pre .1 (c .before .loop .k) (c .loop-test .taken))
@@ -62,8 +62,8 @@ jobs-at-spec =
     Inv-loop
     μ-loop
     loop-holds
-    mul-place
-    array-read-place
+    mul-position
+    array-read-position
     mul-ordered
     array-copy-out-ordered
     mul-ordered-2

@@ -3,7 +3,7 @@ use mathlib.Core.Path.{_∙_}
 use native.Mathlib.Omega.{arith}
 use borrow.Author.Tests.{lt-ltb, le-ltb, not-true, not-false}
 use Rattle.frame_calls.specs.Calls.{nextOf}
-use Rattle.frame_record.proofs.Laws.{is-open, open-fits, open-place}
+use Rattle.frame_record.proofs.Laws.{is-open, open-fits, open-position}
 use borrow.Author.Needs.{needs}
 use Rattle.frame_calls.proofs.panel_job.Statement.{statement}
 use Rattle.frame_calls.proofs.panel_job.Tie as tie
@@ -25,14 +25,14 @@ mul-e : tie.Need-mul-e
 mul-e c =
     omega (
       arith,
-      open-place _ (is-open _ _ (c .before .before .before .is-in .ensures) ∙ not-false _ (c .before .before .if1 .left)) (c .before .if2 .taken),
+      open-position _ (is-open _ _ (c .before .before .before .is-in .ensures) ∙ not-false _ (c .before .before .if1 .left)) (c .before .if2 .taken),
     )
 
 element-copy-out-e : tie.Need-element-copy-out-e
 element-copy-out-e c =
     omega (
       arith,
-      open-place _ (is-open _ _ (c .before .before .before .is-in .ensures) ∙ not-false _ (c .before .before .if1 .left)) (c .before .if2 .taken),
+      open-position _ (is-open _ _ (c .before .before .before .is-in .ensures) ∙ not-false _ (c .before .before .if1 .left)) (c .before .if2 .taken),
     )
 
 returns-2 : tie.Need-returns-2

@@ -15,22 +15,22 @@ returns : tie.Need-returns
 unfolding readOf
 returns c = simp (is-begun _ _ (c .before .is-in .ensures) ∙ not-true _ (c .if1 .taken))
 
-place-of-requires : tie.Need-place-of-requires
-place-of-requires c κs = begun-fits _ (is-begun _ _ (c .before .is-in .ensures) ∙ not-false _ (c .if1 .left))
+position-of-requires : tie.Need-position-of-requires
+position-of-requires c κs = begun-fits _ (is-begun _ _ (c .before .is-in .ensures) ∙ not-false _ (c .if1 .left))
 
 enum-known-found : tie.Need-enum-known-found
 enum-known-found c = search needs
 
 mul-e : tie.Need-mul-e
 mul-e c =
-    let at = sym (c .before .before .before .place-of .ensures) ∙ c .before .found .given .1 in
+    let at = sym (c .before .before .before .position-of .ensures) ∙ c .before .found .given .1 in
     let i = c .before .before .before .before in
     let begun = is-begun _ _ (i .before .is-in .ensures) ∙ not-false _ (i .if1 .left) in
     omega (arith, begun-fits _ begun, where-below _ _ _ at)
 
 element-copy-out-e : tie.Need-element-copy-out-e
 element-copy-out-e c =
-    let at = sym (c .before .before .before .place-of .ensures) ∙ c .before .found .given .1 in
+    let at = sym (c .before .before .before .position-of .ensures) ∙ c .before .found .given .1 in
     let i = c .before .before .before .before in
     let begun = is-begun _ _ (i .before .is-in .ensures) ∙ not-false _ (i .if1 .left) in
     omega (arith, begun-fits _ begun, where-below _ _ _ at)
@@ -44,7 +44,7 @@ returns-2 c =
     let i = c .before .before .before .before .before .before in
     simp (
       is-begun _ _ (i .before .is-in .ensures) ∙ not-false _ (i .if1 .left),
-      sym (c .before .before .before .before .before .place-of .ensures) ∙ c .before .before .before .found .given .1,
+      sym (c .before .before .before .before .before .position-of .ensures) ∙ c .before .before .before .found .given .1,
       c .reading-of .ensures,
     )
 
@@ -56,7 +56,7 @@ unfolding readOf
 returns-3 c =
     simp (
       is-begun _ _ (c .before .before .before .before .is-in .ensures) ∙ not-false _ (c .before .before .before .if1 .left),
-      sym (c .before .before .place-of .ensures) ∙ c .enum-told .given .1,
+      sym (c .before .before .position-of .ensures) ∙ c .enum-told .given .1,
     )
 
 pub read-spec : {M : Type 1} → statement M
@@ -65,7 +65,7 @@ read-spec =
     (tie.spec
     is-in-requires
     returns
-    place-of-requires
+    position-of-requires
     enum-known-found
     mul-e
     element-copy-out-e

@@ -45,8 +45,8 @@ returns-3 c =
     )
     (c .refuse3 .ensures)
 
-place-of-requires : tie.Need-place-of-requires
-place-of-requires c κs =
+position-of-requires : tie.Need-position-of-requires
+position-of-requires c κs =
     let i = c .before .before in
     open-fits _ (is-open _ _ (i .before .is-in .ensures) ∙ not-false _ (i .if1 .left))
 
@@ -55,21 +55,21 @@ enum-known-found c = search needs
 
 mul-e : tie.Need-mul-e
 mul-e c =
-    let at = sym (c .before .before .before .place-of .ensures) ∙ c .before .found .given .1 in
+    let at = sym (c .before .before .before .position-of .ensures) ∙ c .before .found .given .1 in
     let i = c .before .before .before .before .before .before in
     let opened = is-open _ _ (i .before .is-in .ensures) ∙ not-false _ (i .if1 .left) in
     omega (arith, open-fits _ opened, where-below _ _ _ at)
 
 element-copy-out-e : tie.Need-element-copy-out-e
 element-copy-out-e c =
-    let at = sym (c .before .before .before .place-of .ensures) ∙ c .before .found .given .1 in
+    let at = sym (c .before .before .before .position-of .ensures) ∙ c .before .found .given .1 in
     let i = c .before .before .before .before .before .before in
     let opened = is-open _ _ (i .before .is-in .ensures) ∙ not-false _ (i .if1 .left) in
     omega (arith, open-fits _ opened, where-below _ _ _ at)
 
 back-at-requires : tie.Need-back-at-requires
 back-at-requires c κs =
-    let at = sym (c .before .before .before .before .place-of .ensures) ∙ c .before .before .found .given .1 in
+    let at = sym (c .before .before .before .before .position-of .ensures) ∙ c .before .before .found .given .1 in
     let i = c .before .before .before .before .before .before .before in
     let opened = is-open _ _ (i .before .is-in .ensures) ∙ not-false _ (i .if1 .left) in
     omega (arith, open-fits _ opened, where-below _ _ _ at)
@@ -83,7 +83,7 @@ returns-4 c =
     let left = c .before .before .before .before .before .before .before .if2 .left in
     let number = eq-eqb (a .number) (a .t1 .number) (omega (arith, left)) in
     let clock = le-ltb _ _ (c .before .before .before .before .before .before .if3 .left) in
-    let found = sym (c .before .before .before .before .before .place-of .ensures) ∙ c .before .before .before .found .given .1 in
+    let found = sym (c .before .before .before .before .before .position-of .ensures) ∙ c .before .before .before .found .given .1 in
     simp (opened, number, clock, found) (c .back-at .ensures)
 
 enum-told : tie.Need-enum-told
@@ -101,7 +101,7 @@ returns-5 c =
     let left = c .before .before .before .before .before .if2 .left in
     let number = eq-eqb (a .number) (a .t1 .number) (omega (arith, left)) in
     let clock = le-ltb _ _ (c .before .before .before .before .if3 .left) in
-    let found = sym (c .before .before .before .place-of .ensures) ∙ c .before .enum-told .given .1 in
+    let found = sym (c .before .before .before .position-of .ensures) ∙ c .before .enum-told .given .1 in
     simp (opened, number, clock, found) (c .refuse4 .ensures)
 
 pub give-back-spec : {M : Type 1} → statement M
@@ -115,7 +115,7 @@ give-back-spec =
     returns-2
     refuse-requires-3
     returns-3
-    place-of-requires
+    position-of-requires
     enum-known-found
     mul-e
     element-copy-out-e

@@ -3,7 +3,7 @@ use mathlib.Core.Path.{refl, _∙_}
 use native.Mathlib.Omega.{arith}
 use borrow.Author.Tests.{lt-ltb, le-ltb, eq-eqb, ne-eqb, not-true, not-false}
 use Rattle.frame_reports.specs.Reports.{spanStep}
-use Rattle.frame_record.proofs.Laws.{is-open, open-fits, open-place}
+use Rattle.frame_record.proofs.Laws.{is-open, open-fits, open-position}
 use borrow.Author.Needs.{needs}
 use Rattle.frame_reports.proofs.span_end.Statement.{statement}
 use Rattle.frame_reports.proofs.span_end.Tie as tie
@@ -41,7 +41,7 @@ mul-e c =
     let i = c .before .before .before in
     omega (
       arith,
-      open-place _ (is-open _ _ (i .before .is-in .ensures) ∙ not-false _ (i .if1 .left)) (c .before .if3 .taken),
+      open-position _ (is-open _ _ (i .before .is-in .ensures) ∙ not-false _ (i .if1 .left)) (c .before .if3 .taken),
     )
 
 element-copy-out-e : tie.Need-element-copy-out-e
@@ -49,14 +49,14 @@ element-copy-out-e c =
     let i = c .before .before .before in
     omega (
       arith,
-      open-place _ (is-open _ _ (i .before .is-in .ensures) ∙ not-false _ (i .if1 .left)) (c .before .if3 .taken),
+      open-position _ (is-open _ _ (i .before .is-in .ensures) ∙ not-false _ (i .if1 .left)) (c .before .if3 .taken),
     )
 
 span-at-requires : tie.Need-span-at-requires
 span-at-requires c κs =
     let i = c .before .before .before .before .before .before in
     let opened = is-open _ _ (i .before .is-in .ensures) ∙ not-false _ (i .if1 .left) in
-    (omega (arith, open-fits _ opened), open-place _ opened (c .before .before .before .before .if3 .taken), refl)
+    (omega (arith, open-fits _ opened), open-position _ opened (c .before .before .before .before .if3 .taken), refl)
 
 returns-3 : tie.Need-returns-3
 unfolding spanStep

@@ -1,9 +1,9 @@
--- `free::away_part` lists the flagged jobs in away order. The loop's invariant: the draft has those among the places passed. Assumes nothing.
+-- `free::away_part` lists the flagged jobs in away order. The loop's invariant: the draft has those among the positions passed. Assumes nothing.
 use borrow.Author.Needs.{needs}
 use Rattle.free.proofs.Parts.{Prepares, prepares, away-room, away-more, away-end}
 use Rattle.free.specs.Parts.{inAwayOrder}
 use Rattle.draft.proofs.Drafts.{Listing, listing-begin}
-use Rattle.choice.proofs.Held.{ready-few, ready-place}
+use Rattle.choice.proofs.Held.{ready-few, ready-position}
 use Rattle.choice.specs.Choices.{SoundJobs}
 use Rattle.model.specs.FreeOrder.{isAway}
 use Rattle.model.specs.declared.Job.{Job}
@@ -14,11 +14,11 @@ use Rattle.free.proofs.away_part.Statement.{statement}
 use Rattle.free.proofs.away_part.Tie as tie
 
 abbrev Inv-loop : tie.InvT-loop
-Inv-loop flags count places jobs draft₀ k₀ draft k =
-    (k ≤ count) × ((js : List Job) → SoundJobs js → Prepares js count places jobs → Listing isAway [] (inAwayOrder js flags) draft k)
+Inv-loop flags count positions jobs draft₀ k₀ draft k =
+    (k ≤ count) × ((js : List Job) → SoundJobs js → Prepares js count positions jobs → Listing isAway [] (inAwayOrder js flags) draft k)
 
 abbrev μ-loop : tie.MeasureT-loop
-μ-loop flags count places jobs draft₀ k₀ draft k = count - k
+μ-loop flags count positions jobs draft₀ k₀ draft k = count - k
 
 empty-requires : tie.Need-empty-requires Inv-loop μ-loop
 empty-requires c κs = search needs
@@ -26,14 +26,14 @@ empty-requires c κs = search needs
 loop-holds : tie.Need-loop-holds Inv-loop μ-loop
 loop-holds c = (search needs, λ js s p. listing-begin isAway [] _ _ (c .empty .ensures))
 
-mul-place : tie.Need-mul-place Inv-loop μ-loop
-mul-place c = omega (arith, ready-few _ (c .before .before .before .before .before .pre))
+mul-position : tie.Need-mul-position Inv-loop μ-loop
+mul-position c = omega (arith, ready-few _ (c .before .before .before .before .before .pre))
 
-array-read-place : tie.Need-array-read-place Inv-loop μ-loop
-array-read-place c = omega (arith, ready-few _ (c .before .before .before .before .before .pre))
+array-read-position : tie.Need-array-read-position Inv-loop μ-loop
+array-read-position c = omega (arith, ready-few _ (c .before .before .before .before .before .pre))
 
 array-read-with-if : tie.Need-array-read-with-if Inv-loop μ-loop
-array-read-with-if c = omega (arith, ready-place _ (c .before .before .before .before .before .pre) (c .before .loop .k) (c .loop-test .taken))
+array-read-with-if c = omega (arith, ready-position _ (c .before .before .before .before .before .pre) (c .before .loop .k) (c .loop-test .taken))
 
 mul-with-if : tie.Need-mul-with-if Inv-loop μ-loop
 mul-with-if c = omega (arith, ready-few _ (c .before .before .before .before .before .pre))
@@ -71,8 +71,8 @@ away-part-spec =
     μ-loop
     empty-requires
     loop-holds
-    mul-place
-    array-read-place
+    mul-position
+    array-read-position
     array-read-with-if
     mul-with-if
     array-copy-out-with-if

@@ -16,7 +16,7 @@ use Rattle.table.proofs.Listed.{SoFar, so-far-begin, so-far-refused, so-far-end
 use Rattle.plan.specs.declared.Step.{Step}
 use Rattle.plan.specs.declared.RecordRead.the-variants.{RecordIs}
 use Rattle.plan.specs.declared.PlanRead.the-variants.{PlanRefused}
-use Rattle.plan.specs.Plans.{stepId, stepEntry, refusalOf, readPlan, planRead}
+use Rattle.plan.specs.Plans.{stepId, stepParsed, refusalOf, readPlan, planRead}
 use Rattle.plan.proofs.Steps.{planEntry, step-read, ended-count}
 use Rattle.plan.proofs.read_plan.Statement.{statement}
 use Rattle.plan.proofs.read_plan.Tie as tie
@@ -56,7 +56,7 @@ returns c =
     let told = c .before .enum-told .given .1 in
     ap PlanRefused (c .refusal-of .ensures ∙ ap refusalOf told) ∙
     ap planRead
-    (so-far-refused _ _ _ (c .before .before .before .before .loop .inv .so) (ap stepEntry (sym (c .before .before .before .record-at .ensures) ∙ told)))
+    (so-far-refused _ _ _ (c .before .before .before .before .loop .inv .so) (ap stepParsed (sym (c .before .before .before .record-at .ensures) ∙ told)))
 
 enum-known-record : tie.Need-enum-known-record Inv-loop μ-loop
 enum-known-record c = search needs
@@ -75,7 +75,7 @@ listed :
     let begin = c .before .before .before .before .before .before .before .before .before .before .before in
     planEntry (now (begin .args .s)) (l .p) (l .count) ≡ one (read .0) (read .1 .0)
 listed c =
-    ap stepEntry
+    ap stepParsed
     (sym (c .before .before .before .before .before .before .before .record-at .ensures) ∙
     (c .before .before .before .before .before .answer .given .1 ∙ ap RecordIs (c .before .before .«record» .given .1)))
 
@@ -119,7 +119,7 @@ returns-3 c =
     let inv = c .before .before .before .before .before .before .before .before .loop .inv in
     let last = c .before .before .record2 .given in
     let read =
-    ap stepEntry
+    ap stepParsed
     (sym (c .before .before .before .before .before .before .before .record-at .ensures) ∙
     (c .before .before .before .before .before .answer .given .1 ∙ ap RecordIs (last .1))) in
     c .ended-at .ensures ∙

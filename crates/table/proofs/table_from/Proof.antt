@@ -16,9 +16,9 @@ use Rattle.table.specs.declared.FrameRead.{FrameRead}
 use Rattle.table.specs.declared.Table.{Table}
 use Rattle.table.specs.Limits.{mostJobs}
 use Rattle.table.specs.Records.{one}
-use Rattle.table.specs.Tables.{jobId, jobEntry, jobsRead, withDeadline, afterFrame, tableOf}
+use Rattle.table.specs.Tables.{jobId, jobParsed, jobsRead, withDeadline, afterFrame, tableOf}
 use Rattle.table.proofs.Listed.{SoFar, so-far-begin, so-far-refused, so-far-ended, so-far-twice, so-far-more}
-use Rattle.table.proofs.Tables.{rowEntry, row-is, row-few, table-more, Judged, judged-refused, judged-ended, answered-whole, answered-refused}
+use Rattle.table.proofs.Tables.{rowParsed, row-is, row-few, table-more, Judged, judged-refused, judged-ended, answered-whole, answered-refused}
 use Rattle.table.proofs.table_from.Statement.{statement}
 use Rattle.table.proofs.table_from.Tie as tie
 
@@ -26,7 +26,7 @@ use Rattle.table.proofs.table_from.Tie as tie
 record Kept (s : List ℕ) (first : Place) (D : ℕ) (t : Table) (seen : List Bool) (p : Place) : Type 0 where
   js : List Job
   held : t ≡ tableOf D js
-  so : SoFar jobId (rowEntry s) (length s) first js (t .count) seen p
+  so : SoFar jobId (rowParsed s) (length s) first js (t .count) seen p
 
 abbrev Inv-loop : tie.InvT-loop
 Inv-loop s nothing t₀ seen₀ deadline p₀ t seen p = Kept s p₀ deadline t seen p
@@ -66,8 +66,8 @@ listed :
     let l = c .before .before .before .before .before .loop in
     let read = c .before .before .j .given .0 in
     let start = c .before .before .before .before .before .before .before .before .before .before .before in
-    rowEntry (now (start .args .s)) (l .p) (l .t .count) ≡ one (read .0) (read .1 .0)
-listed c = ap jobEntry (sym (c .before .before .before .before .job-at .ensures) ∙ c .before .before .j .given .1)
+    rowParsed (now (start .args .s)) (l .p) (l .t .count) ≡ one (read .0) (read .1 .0)
+listed c = ap jobParsed (sym (c .before .before .before .before .job-at .ensures) ∙ c .before .before .j .given .1)
 
 array-write-seen : tie.Need-array-write-seen Inv-loop μ-loop
 array-write-seen c = search needs
@@ -120,14 +120,14 @@ judged c =
       | inr (inl (match, first, known, loop, read, match2, j, known3, struct, if1, t, v)) ↦
           subst (λ (a : FrameRead). Judged (afterFrame s a) (c .match .verdict) (c .match .t)) (sym (first .given .1))
           (judged-refused _ v
-          (ap (withDeadline _) (so-far-twice _ _ _ (loop .inv .so) (ap jobEntry (sym (read .ensures) ∙ j .given .1)) (omega arith) (if1 .taken))))
+          (ap (withDeadline _) (so-far-twice _ _ _ (loop .inv .so) (ap jobParsed (sym (read .ensures) ∙ j .given .1)) (omega arith) (if1 .taken))))
       | inr (inr (inl (match, first, known, loop, read, match2, after, known4, ended, t, v))) ↦
           subst (λ (a : FrameRead). Judged (afterFrame s a) (c .match .verdict) (c .match .t)) (sym (first .given .1))
           (judged-ended _ (loop .inv .js) s _ (v ∙ ended .ensures) (t ∙ loop .inv .held)
-          (so-far-ended _ _ _ (loop .inv .so) (ap jobEntry (sym (read .ensures) ∙ after .given .1))))
+          (so-far-ended _ _ _ (loop .inv .so) (ap jobParsed (sym (read .ensures) ∙ after .given .1))))
       | inr (inr (inr (match, first, known, loop, read, match2, f, known5, t, v))) ↦
           subst (λ (a : FrameRead). Judged (afterFrame s a) (c .match .verdict) (c .match .t)) (sym (first .given .1))
-          (judged-refused _ v (ap (withDeadline _) (so-far-refused _ _ _ (loop .inv .so) (ap jobEntry (sym (read .ensures) ∙ f .given .1)))))
+          (judged-refused _ v (ap (withDeadline _) (so-far-refused _ _ _ (loop .inv .so) (ap jobParsed (sym (read .ensures) ∙ f .given .1)))))
     ]
 
 is-whole-requires : tie.Need-is-whole-requires Inv-loop μ-loop

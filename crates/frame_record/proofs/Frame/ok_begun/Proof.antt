@@ -27,8 +27,8 @@ returns-4 c =
       lt-leb _ _ (c .if4 .taken),
     )
 
-places-ok-requires : tie.Need-places-ok-requires
-places-ok-requires c κs = search needs
+positions-ok-requires : tie.Need-positions-ok-requires
+positions-ok-requires c κs = search needs
 
 returns-5 : tie.Need-returns-5
 unfolding okBegun
@@ -39,8 +39,8 @@ returns-5 c =
       le-leb _ _ (c .before .before .before .if3 .left),
       le-leb _ _ (c .before .if4 .left),
     )
-    (c .places-ok .ensures)
+    (c .positions-ok .ensures)
 
 pub ok-begun-spec : {M : Type 1} → statement M
 ok-begun-spec =
-    tie.close (tie.spec returns returns-2 returns-3 returns-4 places-ok-requires returns-5)
+    tie.close (tie.spec returns returns-2 returns-3 returns-4 positions-ok-requires returns-5)

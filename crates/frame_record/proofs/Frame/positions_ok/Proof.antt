@@ -1,27 +1,27 @@
--- `frame_record::Frame::places_ok` meets its contract: `Going` of proofs/Marks.antt is kept, and each way out of a turn is one of its laws. Assumes nothing.
+-- `frame_record::Frame::positions_ok` meets its contract: `Going` of proofs/Marks.antt is kept, and each way out of a turn is one of its laws. Assumes nothing.
 use mathlib.Core.Path.{sym, _∙_}
 use Prim.Native.Nat.{_-_}
 use native.Mathlib.Omega.{arith}
 use borrow.Author.Needs.{needs}
 use borrow.Author.Tests.{not-true, not-false}
-use Rattle.frame_record.proofs.Marks.{Going, going, gone, beyond, place-again, id-again, badly, onward}
-use Rattle.frame_record.proofs.Frame.places_ok.Statement.{statement}
-use Rattle.frame_record.proofs.Frame.places_ok.Tie as tie
+use Rattle.frame_record.proofs.Marks.{Going, going, gone, beyond, position-again, id-again, badly, onward}
+use Rattle.frame_record.proofs.Frame.positions_ok.Statement.{statement}
+use Rattle.frame_record.proofs.Frame.positions_ok.Tie as tie
 
 abbrev Inv-loop : tie.InvT-loop
-Inv-loop self count places₀ ids₀ k₀ places ids k = Going self places ids k
+Inv-loop self count positions₀ ids₀ k₀ positions ids k = Going self positions ids k
 
 abbrev μ-loop : tie.MeasureT-loop
-μ-loop self count places₀ ids₀ k₀ places ids k = count - k
+μ-loop self count positions₀ ids₀ k₀ positions ids k = count - k
 
 loop-holds : tie.Need-loop-holds Inv-loop μ-loop
 loop-holds c = going _
 
-mul-place : tie.Need-mul-place Inv-loop μ-loop
-mul-place c = search needs
+mul-position : tie.Need-mul-position Inv-loop μ-loop
+mul-position c = search needs
 
-element-copy-out-place : tie.Need-element-copy-out-place Inv-loop μ-loop
-element-copy-out-place c = search needs
+element-copy-out-position : tie.Need-element-copy-out-position Inv-loop μ-loop
+element-copy-out-position c = search needs
 
 returns : tie.Need-returns Inv-loop μ-loop
 returns c =
@@ -35,10 +35,10 @@ array-read-if2 c =
 returns-2 : tie.Need-returns-2 Inv-loop μ-loop
 returns-2 c =
     let l = c .before .before .before .before .loop in
-    place-again (c .before .before .before .before .before .pre) (l .inv) (c .before .before .before .loop-test .taken) (omega arith) (c .if2 .taken)
+    position-again (c .before .before .before .before .before .pre) (l .inv) (c .before .before .before .loop-test .taken) (omega arith) (c .if2 .taken)
 
-array-write-places : tie.Need-array-write-places Inv-loop μ-loop
-array-write-places c =
+array-write-positions : tie.Need-array-write-positions Inv-loop μ-loop
+array-write-positions c =
     omega (arith, c .before .before .before .before .before .pre, c .before .if1 .left)
 
 mul-own : tie.Need-mul-own Inv-loop μ-loop
@@ -99,19 +99,19 @@ loop-again c =
 returns-5 : tie.Need-returns-5 Inv-loop μ-loop
 returns-5 c = gone (c .before .loop .inv) (omega arith)
 
-pub places-ok-spec : {M : Type 1} → statement M
-places-ok-spec =
+pub positions-ok-spec : {M : Type 1} → statement M
+positions-ok-spec =
     tie.close
     (tie.spec
     Inv-loop
     μ-loop
     loop-holds
-    mul-place
-    element-copy-out-place
+    mul-position
+    element-copy-out-position
     returns
     array-read-if2
     returns-2
-    array-write-places
+    array-write-positions
     mul-own
     element-copy-out-own
     cast-id

@@ -1,4 +1,4 @@
--- `frame_record::Frame::place_of` meets its contract: what is still to look at gives the same as the whole. Assumes nothing.
+-- `frame_record::Frame::position_of` meets its contract: what is still to look at gives the same as the whole. Assumes nothing.
 use mathlib.Core.Path.{_≡_, _∙_, sym}
 use Prim.Native.Nat.{_≤_, _-_}
 use native.Mathlib.Nat.{sub-zero}
@@ -7,8 +7,8 @@ use borrow.Author.Tests.{eq-eqb, ne-eqb}
 use Rattle.lookup.specs.Lookup.{first}
 use Rattle.frame_record.specs.Sound.{none, entryId, whereIs}
 use Rattle.lookup.proofs.Lookup.{first-turn, first-end}
-use Rattle.frame_record.proofs.Frame.place_of.Statement.{statement}
-use Rattle.frame_record.proofs.Frame.place_of.Tie as tie
+use Rattle.frame_record.proofs.Frame.position_of.Statement.{statement}
+use Rattle.frame_record.proofs.Frame.position_of.Tie as tie
 
 abbrev Inv-loop : tie.InvT-loop
 Inv-loop id f count i₀ i = (i ≤ count) × (first entryId none (f .entries) id 0 (f .count) ≡ first entryId none (f .entries) id i (f .count - i))
@@ -42,8 +42,8 @@ returns-2 : tie.Need-returns-2 Inv-loop μ-loop
 unfolding whereIs
 returns-2 c = sym (c .before .loop .inv .1 ∙ first-end _ _ _ _ _ _ (search needs))
 
-pub place-of-spec : {M : Type 1} → statement M
-place-of-spec =
+pub position-of-spec : {M : Type 1} → statement M
+position-of-spec =
     tie.close
     (tie.spec
     Inv-loop

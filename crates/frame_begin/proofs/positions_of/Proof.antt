@@ -1,4 +1,4 @@
--- `frame_begin::places_of` meets its contract: the first k positions are filled. Assumes nothing.
+-- `frame_begin::positions_of` meets its contract: the first k positions are filled. Assumes nothing.
 use mathlib.Core.Path.{_≡_, refl, ap, _∙_}
 use Prim.Native.Nat.{_≤_, _-_}
 use native.Mathlib.Omega.{arith}
@@ -7,15 +7,15 @@ use Rattle.table.specs.Tables.{jobTable}
 use Rattle.lookup.specs.Lookup.{positionOf, indexed}
 use Rattle.plan.specs.declared.Step as plan
 use Rattle.plan.specs.Plans.{readPlan}
-use Rattle.frame_begin.specs.Begin.{stepsIn, filled, stepPlace, placesOf}
+use Rattle.frame_begin.specs.Begin.{stepsIn, filled, stepPosition, positionsOf}
 use Rattle.frame_begin.proofs.Filled.{filled-more}
 use Rattle.frame_begin.proofs.Passed.{step-in}
-use Rattle.frame_begin.proofs.places_of.Statement.{statement}
-use Rattle.frame_begin.proofs.places_of.Tie as tie
+use Rattle.frame_begin.proofs.positions_of.Statement.{statement}
+use Rattle.frame_begin.proofs.positions_of.Tie as tie
 
 abbrev Inv-loop : tie.InvT-loop
 Inv-loop t plan index order₀ k₀ order k =
-    (k ≤ t .count) × (order ≡ filled 0 (stepPlace (jobTable t .jobs) (stepsIn (readPlan plan))) k)
+    (k ≤ t .count) × (order ≡ filled 0 (stepPosition (jobTable t .jobs) (stepsIn (readPlan plan))) k)
 
 abbrev μ-loop : tie.MeasureT-loop
 μ-loop t plan index order₀ k₀ order k = t .count - k
@@ -61,14 +61,14 @@ loop-again c =
     (search needs, filled-more 0 _ _ _ _ (here .inv .1) (told ∙ ap (λ (x : plan.Step). indexed (positionOf (jobTable (start .args .t) .jobs) (x .id))) step))
 
 returns : tie.Need-returns Inv-loop μ-loop
-unfolding placesOf
+unfolding positionsOf
 returns c =
     let here = c .before .before .loop in
     let e : here .k ≡ c .before .before .before .before .before .args .t .count = omega arith in
     here .inv .1 ∙ rw e
 
-pub places-of-spec : {M : Type 1} → statement M
-places-of-spec =
+pub positions-of-spec : {M : Type 1} → statement M
+positions-of-spec =
     tie.close
     (tie.spec
     Inv-loop
