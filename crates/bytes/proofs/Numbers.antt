@@ -1,7 +1,7 @@
 -- Two and four bytes: a number written and read again at its place is that number, bytes read and written again are those bytes, and what stands
 -- behind a place says of it what it says of its own front. Assumes nothing.
 use Prim.Native.Nat.{ℕ, suc, _+_, _*_, _/_, _%_, _≤_, _<_}
-use mathlib.Core.Path.{_≡_, refl, sym, ap, _∙_}
+use mathlib.Core.Path.{_≡_, sym, ap, _∙_}
 use mathlib.Core.List.{List, [], _∷_, _++_}
 use lib.ListN.{length, take, drop, getD}
 use lib.Seq.{getD-drop, drop-cons, drop-drop, take-add}

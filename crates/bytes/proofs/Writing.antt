@@ -83,6 +83,15 @@ then out at w v h a b =
       area = rw (b .area, a .area, a .place) (sym (written-append out at w v h));
     }
 
+-- what is written in an area that keeps its length ends within it
+pub ends-within :
+    (before : List ℕ) (at : ℕ) (w after : List ℕ) (end : ℕ) → at ≤ length before → Wrote before at w after end → length after ≡ length before →
+    end ≤ length before
+unfolding written
+ends-within before at w after end h wrote same =
+    let sizes = simp (length-append, length-take-le at before h) at (ap length (wrote .area)) in
+    omega (arith, wrote .place, sizes)
+
 -- two words, where there is room for both: room for the first, then for the second, and both stand one after the other
 module _ (out : List ℕ) (at : ℕ) (w v : List ℕ) (room : at + length (w ++ v) ≤ length out) where
   pub room-first : at + length w ≤ length out

@@ -24,7 +24,6 @@ use Rattle.table.specs.Refusals.{refusalSays, Outcome, accepted, refused}
 use Rattle.table.specs.Tables.{JobTable, readTable}
 use Rattle.table.proofs.Accepted.{accepted-good}
 use Rattle.planner.proofs.Orders.{free-many}
-use Rattle.bytes.specs.Decimals.{decimal}
 use Rattle.bytes.proofs.Decimals.{few-digits}
 use Rattle.lines.specs.Lines.{refusedText}
 use Rattle.lines.proofs.Lines.{pair-length}

@@ -11,7 +11,6 @@ use lib.Dec.{leb}
 use borrow.Author.Tests.{leb-true, lt-leb}
 use Rattle.model.proofs.Lists.{clash}
 use Rattle.bytes.specs.Numbers.{twoAt}
-use Rattle.replaying.specs.declared.EventKind.{EventKind}
 use Rattle.replaying.specs.declared.EventKind.the-variants as K
 use Rattle.replaying.specs.declared.CallKind.{CallKind}
 use Rattle.replaying.specs.declared.CallKind.the-variants.{Begin, Other}
@@ -19,7 +18,7 @@ use Rattle.replaying.specs.declared.KindRead.{KindRead}
 use Rattle.replaying.specs.declared.KindRead.the-variants.{Call, Unknown}
 use Rattle.replaying.specs.declared.RecordRead.{RecordRead}
 use Rattle.replaying.specs.declared.RecordRead.the-variants.{Whole, Stop}
-use Rattle.replaying.specs.Log.{kindOf, eventSize, recordSize, fitting, readAs, recordAt, goneBy}
+use Rattle.replaying.specs.Log.{kindOf, recordSize, fitting, readAs, recordAt, goneBy}
 
 -- by the kind of its first byte; with no byte there is none
 pub read-known : (s : List ℕ) (k : KindRead) → k ≡ kindOf (getD s 0 0) → readAs s k ≡ recordAt s

@@ -13,7 +13,7 @@ ghost use lib.ListN.{length};
 ghost use lib.Ieee.{toBits, binary32};
 ghost use Rattle.bytes.specs.Writing.{Wrote};
 ghost use Rattle.lines.specs.Lines.{refusedRoom};
-ghost use Rattle.replaying.specs.Log.{kindOf, eventSize, recordSize, fitting, readAs, recordAt, valueOf, eventOf, beginOf, callOf};
+ghost use Rattle.replaying.specs.Log.{kindOf, eventSize, recordSize, fitting, recordAt, valueOf, eventOf, beginOf, callOf};
 ghost use Rattle.replaying.specs.Log.{replayed};
 ghost use Rattle.replaying.specs.Lines.{eventWord, callWord, panelText, patternText, freshText, readingText, answerText, stoppedLine, lineRoom};
 ghost use Rattle.replaying.specs.Lines.{Shows, TurnAt, Moved};

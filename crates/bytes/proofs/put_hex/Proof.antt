@@ -1,15 +1,13 @@
 -- `bytes::put_hex` meets its contract. The invariant: the digits still to write, written in front of those that stand, give all eight written.
 -- The measure is how many are left. Assumes nothing.
 use Prim.Native.Nat.{ℕ, _≤_}
-use mathlib.Core.Path.{_≡_, refl, sym, ap, _∙_}
+use mathlib.Core.Path.{_≡_, refl, sym, _∙_}
 use mathlib.Core.List.{List}
 use native.Mathlib.Omega.{arith}
-use denote.Ref.{now}
 use lib.ListN.{length, length-set}
 use borrow.Author.Needs.{needs}
 use Rattle.bytes.specs.Writing.{written}
 use Rattle.bytes.specs.Hex.{hexIn, hexOf}
-use Rattle.bytes.proofs.Writing.{written-nil}
 use Rattle.bytes.proofs.Hex.{one-more, none-left, hex-length}
 use Rattle.bytes.proofs.put_hex.Statement.{statement}
 use Rattle.bytes.proofs.put_hex.Tie as tie

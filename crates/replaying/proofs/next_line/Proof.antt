@@ -1,10 +1,10 @@
 -- `replaying::next_line` meets its contract: the line of a whole record, or the line that the run stops. Assumes nothing.
 use native.Mathlib.Omega.{arith}
-use mathlib.Core.Path.{_≡_, refl, sym, _∙_}
+use mathlib.Core.Path.{refl, sym, _∙_}
 use denote.Ref.{now}
 use lib.Seq.{length-take-le}
 use Rattle.replaying.proofs.Records.{whole-is, whole-taken}
-use Rattle.replaying.proofs.Rooms.{ends-within}
+use Rattle.bytes.proofs.Writing.{ends-within}
 use borrow.Author.Needs.{needs}
 use Rattle.replaying.proofs.next_line.Statement.{statement}
 use Rattle.replaying.proofs.next_line.Tie as tie

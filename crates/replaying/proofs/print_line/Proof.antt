@@ -1,5 +1,4 @@
 -- `replaying::print_line` meets its contract: the line that is written out lies within the buffer. Assumes nothing.
-use native.Mathlib.Omega.{arith}
 use mathlib.Core.Path.{sym}
 use lib.Seq.{length-take-le}
 use borrow.Author.Needs.{needs}

@@ -1,17 +1,14 @@
 -- `replaying::put_fresh` meets its contract: a frame number has at most ten digits, a pattern eight. Assumes nothing.
 use native.Mathlib.Omega.{arith}
 use Prim.Native.Nat.{ℕ, _+_, _≤_, _<_}
-use mathlib.Core.Path.{_≡_, ap}
+use mathlib.Core.Path.{_≡_}
 use mathlib.Core.List.{List, _++_}
 use denote.Ref.{now}
 use lib.ListN.{length, length-append}
-use lib.Ieee.{toBits, binary32}
 use Rattle.bytes.specs.Decimals.{decimal}
-use Rattle.bytes.specs.Hex.{hexOf}
 use Rattle.bytes.proofs.Decimals.{few-digits}
 use Rattle.bytes.proofs.Hex.{hex-digits}
 use Rattle.bytes.proofs.Writing.{room-first, room-next, both}
-use Rattle.lines.specs.Lines.{space, newline}
 use Rattle.replaying.specs.Lines.{freshWord, patternText, freshText}
 use Rattle.replaying.proofs.Rooms.{room-for}
 use borrow.Author.Needs.{needs}

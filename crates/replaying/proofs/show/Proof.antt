@@ -1,11 +1,11 @@
 -- `replaying::show` meets its contract: the call's word, and its answer's text behind it. Assumes nothing.
 use native.Mathlib.Omega.{arith}
-use mathlib.Core.Path.{_≡_, refl, ap}
+use mathlib.Core.Path.{refl, ap}
 use denote.Ref.{now}
-use Rattle.bytes.proofs.Writing.{then}
+use Rattle.bytes.proofs.Writing.{then, ends-within}
 use Rattle.frame_record.specs.declared.Called.{Called}
-use Rattle.replaying.specs.Lines.{callWord, answerText, callLine}
-use Rattle.replaying.proofs.Rooms.{word-short, ends-within}
+use Rattle.replaying.specs.Lines.{callWord, callLine}
+use Rattle.replaying.proofs.Rooms.{word-short}
 use borrow.Author.Needs.{needs}
 use Rattle.replaying.proofs.show.Statement.{statement}
 use Rattle.replaying.proofs.show.Tie as tie
