@@ -14,7 +14,8 @@ use Rattle.planner.specs.declared.Planned.{Planned}
 use Rattle.planner.specs.Answers.{plannedSays}
 use Rattle.faults.specs.Faults.{TableIs}
 use Rattle.faults.specs.Checks.{PlanOf}
-use Rattle.listing.specs.Listing.{firstLine, jobLines, lastLine, refusedText}
+use Rattle.lines.specs.Lines.{refusedText}
+use Rattle.listing.specs.Listing.{firstLine, jobLines, lastLine}
 
 -- The text of an answer: a refusal's line; or first line, a line for each job of the plan that stands in the area, and last line with the answer's totals.
 pub data TextOf (s : List ℕ) (r : Planned) (after : List ℕ) : List ℕ → Type 0 where

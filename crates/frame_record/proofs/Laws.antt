@@ -8,7 +8,7 @@ use mathlib.Core.Bool.{Bool, true, false, cond, _&&_}
 use borrow.Author.Tests.{leb-true, ltb-true}
 use Prim.Native.Nat.{ℕ, zero, suc, _+_, _-_, _<_, _≤_}
 use native.Mathlib.Omega.{arith}
-use Rattle.model.proofs.Tests.{and-left, and-right}
+use Rattle.model.proofs.Tests.{false-true, and-left, and-right}
 use Rattle.lookup.specs.declared.Found.the-variants.{At}
 use Rattle.lookup.proofs.Lookup.{first-below}
 use Rattle.frame_record.specs.Sound.{none, positionAt, entryId, whereIs, okOrder, okAt, okFrom, okCounts, okDeadline, okBegun, okIn, phaseIn, isOpen}

@@ -15,7 +15,7 @@ use Rattle.table.specs.Refusals.{refusalSays, Outcome, accepted, refused}
 use Rattle.table.specs.Tables.{JobTable, readTable}
 use Rattle.bytes.specs.Decimals.{decimal}
 use Rattle.lines.specs.Lines.{space, newline, pairLine}
-unfoldable pub use Rattle.lines.specs.Lines.{refusedText}
+use Rattle.lines.specs.Lines.{refusedText}
 use Rattle.listing.specs.declared.Listed.{Listed}
 use Rattle.listing.specs.declared.Listed.the-variants.{Text, NoRoom}
 
