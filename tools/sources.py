@@ -156,7 +156,7 @@ class Tree:
             self.theorems += [d for d in declarations(crate, path, text) if d.public and os.path.basename(path) != 'Proof.antt']
 
 
-USE = re.compile(r'^(?:(?:unfoldable )?pub )?use (?P<module>\S+?)(?:\.\{(?P<names>.*)\})?(?: as (?P<alias>\S+))?$')
+USE = re.compile(r'^use (?P<module>\S+?)(?:\.\{(?P<names>.*)\})?(?: as (?P<alias>\S+))?$')
 
 
 def imports(text):
@@ -189,13 +189,6 @@ class Words:
         self.order = {key: place for place, key in enumerate(self.at)}
         self.imported = {path: imports(text) for path, text in tree.texts.items() if path.endswith('.antt')}
 
-    def home(self, module, name):
-        """Where a name that is imported is declared: the file that it is imported from, or the one from which that passes it on."""
-        path = file_of(module)
-        if (path, name) in self.at or path not in self.imported or name not in self.imported[path][0]:
-            return (path, name)
-        return self.home(*self.imported[path][0][name])
-
     def named(self, path, text):
         """The definitions of specs/ named in a text that stands in a file."""
         names, aliases = self.imported[path]
@@ -205,9 +198,9 @@ class Words:
             if (path, word) in self.at and os.sep + 'specs' + os.sep in path:
                 yield (path, word)
             elif word in names:
-                key = self.home(*names[word])
-                if key in self.at:
-                    yield key
+                module, there = names[word]
+                if file_of(module) and (file_of(module), there) in self.at:
+                    yield (file_of(module), there)
             elif head in aliases and tail and file_of(aliases[head]) and (file_of(aliases[head]), tail) in self.at:
                 yield (file_of(aliases[head]), tail)
 

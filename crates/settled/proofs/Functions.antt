@@ -212,8 +212,8 @@ is-in κs i r s m n p q = (p ∙ sym q, refl)
 pub refuse : Settles frame-record.Frame.refuse.ended frame-record.Frame.refuse.Reads.Learnt
 refuse κs i r s m n p q = (p ∙ sym q, refl)
 
-pub place-of : Settles frame-record.Frame.place_of.ended frame-record.Frame.place_of.Reads.Learnt
-place-of κs i r s m n p q = (p ∙ sym q, refl)
+pub position-of : Settles frame-record.Frame.position_of.ended frame-record.Frame.position_of.Reads.Learnt
+position-of κs i r s m n p q = (p ∙ sym q, refl)
 
 pub begin : Settles frame-begin.begin.ended frame-begin.begin.Reads.Learnt
 begin κs i r s m n p q = (p ∙ sym q, refl)

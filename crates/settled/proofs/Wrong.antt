@@ -343,9 +343,9 @@ refuse = (
 abbrev single : Frame
 single = record { phase = Open; number = 0; clock = 0; deadline = 1; count = 1; next = 0; order = idle .order; entries = idle .entries }
 
-abbrev PlaceNot : ℕ → Found → Type 0
-PlaceNot id r = RulesOut frame-record.Frame.place_of.ended frame-record.Frame.place_of.Reads.Learnt tt (single, (id, tt)) r
+abbrev PositionNot : ℕ → Found → Type 0
+PositionNot id r = RulesOut frame-record.Frame.position_of.ended frame-record.Frame.position_of.Reads.Learnt tt (single, (id, tt)) r
 
-pub place-of : PlaceNot 0 Nowhere × PlaceNot 1 (At 0)
+pub position-of : PositionNot 0 Nowhere × PositionNot 1 (At 0)
 unfolding whereIs first
-place-of = ((λ m e. clash (cc)), (λ m e. clash (cc)))
+position-of = ((λ m e. clash (cc)), (λ m e. clash (cc)))
