@@ -66,4 +66,5 @@ module _ (p : Prepared) (r : Ready p) where
       small : All (λ (j : Job). j .local ≤ largestTime) (jobsInAwayOrder (r .js))
       small =
           all-perm (λ (j : Job). j .local ≤ largestTime) (Permᴰ·symm (perm-falling returnTime (filter isEither (r .js))))
-          (all-filter (λ (j : Job). j .local ≤ largestTime) isEither (r .js) (all-map (λ (j : Job) (t : TimesOk largestTime j). t .local) (r .js) (r .sound .times)))
+          (all-filter (λ (j : Job). j .local ≤ largestTime) isEither (r .js)
+          (all-map (λ (j : Job) (t : TimesOk largestTime j). t .local) (r .js) (r .sound .times)))

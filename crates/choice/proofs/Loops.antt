@@ -29,7 +29,8 @@ jobs-more jobs positions k l h =
     (set-at (jobsAt jobs (take k positions)) noJob (replicate (mostJobs - (k + 1)) noJob) job k
     (length-map (take k positions) at ∙ length-take-le k positions (omega arith))
     ∙ sym (append-snoc (jobsAt jobs (take k positions)) job (replicate (mostJobs - (k + 1)) noJob))
-    ∙ ap (λ (l : List Job). l ++ replicate (mostJobs - (k + 1)) noJob) (sym (ap (jobsAt jobs) taken ∙ map-append at (take k positions) (getD positions k 0 ∷ []))))
+    ∙ ap (λ (l : List Job). l ++ replicate (mostJobs - (k + 1)) noJob)
+    (sym (ap (jobsAt jobs) taken ∙ map-append at (take k positions) (getD positions k 0 ∷ []))))
   where
     at : ℕ → Job
     at i = getD jobs i noJob

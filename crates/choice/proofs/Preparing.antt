@@ -33,7 +33,9 @@ module _ (t : Table) (s : Sound t) (order : AwayOrder) (e : order ≡ away.awayO
   js = jobTable t .jobs
 
   pub order-ready : (order .count ≤ mostJobs) × ((k : ℕ) → k < order .count → getD (order .positions) k 0 < mostJobs)
-  order-ready = rw e (omega (arith, positions-few js, s .good .few), λ k h. omega (arith, position-below js (mostJobs - length (positions js)) k h, s .good .few))
+  order-ready =
+      rw e
+      (omega (arith, positions-few js, s .good .few), λ k h. omega (arith, position-below js (mostJobs - length (positions js)) k h, s .good .few))
 
   pub prepared : (jobs : List Job) (sum : ℕ)
       → jobs ≡ jobsAt (t .jobs) (take (order .count) (order .positions)) ++ replicate (mostJobs - order .count) noJob → sum ≡ base js

@@ -36,8 +36,8 @@ use Rattle.frame_record.specs.declared.Event.the-variants as E
 use Rattle.frame_begin.proofs.Passed.{PlanFits, passed}
 use Rattle.frame_promises.specs.History.{Turn, Last, History, idle, opened, closed, done, fresh, reply, accepts, isAccepted, told, history}
 use Rattle.frame_promises.specs.Runs.{FromIdle}
-use Rattle.frame_promises.specs.Own.{MayBegin, PassingPlan, Doing, runOf, noDoing, doingAt, doneJob, idAt, valueAt, backTime, spanTime, spanCall, backCall}
-use Rattle.frame_promises.specs.Own.{Plays, over, quiet, spans, backs, AllDone, Answers, OwnValues, OnlyReads, EachOwn}
+use Rattle.frame_promises.specs.Own.{MayBegin, PassingPlan, Doing, runOf, noDoing, doingAt, doneJob, idAt, valueAt, backTime, spanTime, spanCall}
+use Rattle.frame_promises.specs.Own.{backCall, Plays, over, quiet, spans, backs, AllDone, Answers, OwnValues, OnlyReads, EachOwn}
 use Rattle.frame_promises.proofs.Replies.{Replied, replied, reply-told}
 use Rattle.frame_promises.proofs.Begins.{begin-iff}
 use Rattle.frame_promises.proofs.Going.{Going, few-ended, span-goes, back-goes, quiet-goes, Ended, all-ended, own-read, own-close, shut}

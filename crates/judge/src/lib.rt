@@ -78,6 +78,7 @@ pub fn check_read(t: Table, plan: &[u8]) -> Checked
     }
 }
 
+// Checks a proposed plan's bytes against a table's.
 pub fn check_plan(table: &[u8], plan: &[u8]) -> Checked
     ensures { λ r. ⌜ r ≡ checkPlan (now (table .entry)) (now (plan .entry)) ⌝ }
 {

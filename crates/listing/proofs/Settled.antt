@@ -84,7 +84,8 @@ module _ (s : List ℕ) (N : ℕ) (enough : 267 ≤ N) where
   judged-same {K} {R} refuse read read′ may p h same =
       let form = formOf (getD s (p .at) 0) in
       rw (byte (p .at) (omega arith), here-same (p .at) (omega arith), whole-same (p .at) (form .body) (omega (arith, body-short (getD s (p .at) 0))))
-      (ap (λ (r : R). cond (ltb (p .at) (length s)) r (refuse (Short p))) (meant (form .body) (leb (form .body) (length s - (p .at + 1))) (may (form .meaning))))
+      (ap (λ (r : R). cond (ltb (p .at) (length s)) r (refuse (Short p)))
+      (meant (form .body) (leb (form .body) (length s - (p .at + 1))) (may (form .meaning))))
     where
       meant : (body : ℕ) (whole : Bool) (o : Option K) → allowed refuse read′ p body whole o ≡ allowed refuse read p body whole o
       meant body whole none = refl
@@ -128,7 +129,8 @@ module _ (s : List ℕ) (N : ℕ) (enough : 267 ≤ N) where
     where
       go :
           (a : Parsed Job) → rowParsed s p (length before) ≡ a →
-          ((js : List Job) (q : Place) → Near js q → listFrom jobId (rowParsed front) (length front) left js q ≡ listFrom jobId (rowParsed s) (length s) left js q) →
+          ((js : List Job) (q : Place) → Near js q →
+          listFrom jobId (rowParsed front) (length front) left js q ≡ listFrom jobId (rowParsed s) (length s) left js q) →
           follow jobId (rowParsed front) (length front) (listFrom jobId (rowParsed front) (length front) left) before p a ≡
           follow jobId (rowParsed s) (length s) (listFrom jobId (rowParsed s) (length s) left) before p a
       go (one j next) e on =

@@ -27,6 +27,12 @@ use Rattle.planner.specs.Answers as A
 use Rattle.planner.specs.Answers.{BestPlan, FreeAnswer, GivenAnswer, LeastAnswer}
 use Rattle.marked.specs.Marked.{Claimed, plan-is, no-plan, no-given, least-is}
 
+-- the answer has the numbers of the plan of xs, whose bytes stand at the front of the area
+abbrev Written : List Chosen → List ℕ → Planned → List ℕ → Type 0
+Written xs before r after =
+    (A.plannedSays r ≡ 0 ∷ length (planBytes (stepsFor xs)) ∷ busy xs ∷ lastFrom 0 xs ∷ []) ×
+    (after ≡ planBytes (stepsFor xs) ++ drop (length (planBytes (stepsFor xs))) before)
+
 module _ (s : List ℕ) (t : JobTable) (e : readTable s ≡ accepted t) where
   few : length (t .jobs) ≤ mostJobs
   few = accepted-good s t e .few
@@ -41,7 +47,7 @@ module _ (s : List ℕ) (t : JobTable) (e : readTable s ≡ accepted t) where
       best : BestPlan (t .deadline) (t .jobs) xs
       best = free-best mostJobs (t .jobs) few (t .deadline) xs f
 
-      step : FreeAnswer s before r after → (A.plannedSays r ≡ 0 ∷ length (planBytes (stepsFor xs)) ∷ busy xs ∷ lastFrom 0 xs ∷ []) × (after ≡ planBytes (stepsFor xs) ++ drop (length (planBytes (stepsFor xs))) before)
+      step : FreeAnswer s before r after → Written xs before r after
       step (A.no-room l h) = absurd (omega arith)
       step (A.bad-table l g q h) = clash (cc)
       step (A.no-plan l u q n h) = absurd (n (rw (same u q) (timetable-iff-workable (t .deadline) (t .jobs) .1 (best .0, best .1 .choice, best .1 .workable))))
@@ -59,7 +65,8 @@ module _ (s : List ℕ) (t : JobTable) (e : readTable s ≡ accepted t) where
       step (A.no-plan l u q n h) = h
       step (A.planned l u q ys p h) =
           let p' = rw (same u q) at p in
-          absurd (free-none-iff mostJobs (t .jobs) few (t .deadline) .0 f (timetable-iff-workable (t .deadline) (t .jobs) .1 (p' .0, p' .1 .choice, p' .1 .workable)))
+          let meets = timetable-iff-workable (t .deadline) (t .jobs) .1 (p' .0, p' .1 .choice, p' .1 .workable) in
+          absurd (free-none-iff mostJobs (t .jobs) few (t .deadline) .0 f meets)
 
   pub given-case : given (t .deadline) 0 (t .jobs) ≡ none → Claimed s no-given
   given-case f before r after room a = step a
@@ -68,18 +75,19 @@ module _ (s : List ℕ) (t : JobTable) (e : readTable s ≡ accepted t) where
       step (A.no-room l h) = absurd (omega arith)
       step (A.bad-table l g q h) = clash (cc)
       step (A.no-plan l u q n h) = h
-      step (A.planned l u q ys p h) = absurd (given-none-iff (t .deadline) (t .jobs) .0 f (best-in-order-iff (t .deadline) (t .jobs) .0 (ys, rw (same u q) at p)))
+      step (A.planned l u q ys p h) =
+          absurd (given-none-iff (t .deadline) (t .jobs) .0 f (best-in-order-iff (t .deadline) (t .jobs) .0 (ys, rw (same u q) at p)))
 
   -- a plan that Algorithm 1 finds is the one that every answer in the given order has
   pub given-plan-case : (xs : List Chosen) → given (t .deadline) 0 (t .jobs) ≡ some xs
       → (before : List ℕ) (r : Planned) (after : List ℕ) → longestPlan ≤ length before → GivenAnswer s before r after
-      → (A.plannedSays r ≡ 0 ∷ length (planBytes (stepsFor xs)) ∷ busy xs ∷ lastFrom 0 xs ∷ []) × (after ≡ planBytes (stepsFor xs) ++ drop (length (planBytes (stepsFor xs))) before)
+      → Written xs before r after
   given-plan-case xs f before r after room a = step a
     where
       best : BestInOrder (t .deadline) (t .jobs) xs
       best = given-best (t .deadline) (t .jobs) xs f
 
-      step : GivenAnswer s before r after → (A.plannedSays r ≡ 0 ∷ length (planBytes (stepsFor xs)) ∷ busy xs ∷ lastFrom 0 xs ∷ []) × (after ≡ planBytes (stepsFor xs) ++ drop (length (planBytes (stepsFor xs))) before)
+      step : GivenAnswer s before r after → Written xs before r after
       step (A.no-room l h) = absurd (omega arith)
       step (A.bad-table l g q h) = clash (cc)
       step (A.no-plan l u q n h) = absurd (n (rw (same u q) (best-in-order-iff (t .deadline) (t .jobs) .0 (xs, best))))
@@ -88,7 +96,9 @@ module _ (s : List ℕ) (t : JobTable) (e : readTable s ≡ accepted t) where
           (rw y at (h .says), rw y at (h .front))
 
   -- met at d + 1, and not at d unless d is 0
-  pub least-case : (d : ℕ) → d < largestTime → (xs : List Chosen) → free mostJobs (suc d) (t .jobs) ≡ some xs → (1 ≤ d → free mostJobs d (t .jobs) ≡ none) → Claimed s (least-is (suc d))
+  pub least-case :
+      (d : ℕ) → d < largestTime → (xs : List Chosen) → free mostJobs (suc d) (t .jobs) ≡ some xs → (1 ≤ d → free mostJobs d (t .jobs) ≡ none) →
+      Claimed s (least-is (suc d))
   least-case d l xs f g r a = step a
     where
       best : BestPlan (suc d) (t .jobs) xs

@@ -1,5 +1,5 @@
--- The tables that the statements about empty and wrong versions are shown by, as bytes and as what they read as; and what every answer in the given order is for three of them.
--- Assumes nothing.
+-- The tables that the statements about empty and wrong versions are shown by, as bytes and as what they read as; and what every answer in the given
+-- order is for three of them. Assumes nothing.
 use mathlib.Core.Path.{_≡_, refl}
 use mathlib.Core.Bool.{true, false}
 use mathlib.Core.List.{List, [], _∷_, _++_}

@@ -19,7 +19,8 @@ abbrev and : {P Q : Type 0} → P → Q → P × Q
 and p q = (p, q)
 
 pub marked-hold : AllHold
-unfolding AllHold marked E readTable frameAt jobsRead jobAt judged formOf listFrom used planBytes readPlan recordAt withKey listed lacksOne checkPlan lastOf replies reportOf without
+unfolding AllHold marked E readTable frameAt jobsRead jobAt judged formOf listFrom used planBytes
+    readPlan recordAt withKey listed lacksOne checkPlan lastOf replies reportOf without
 marked-hold =
     and (plan-case E tableE refl chosenE refl)
     (and (none-case (framed 44 (either 1 30 5 40 ++ (either 2 20 10 10 ++ stays 3 25))) (jobTable 44 (e1 ∷ e2 ∷ e3 ∷ [])) refl refl)

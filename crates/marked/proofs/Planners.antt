@@ -119,7 +119,8 @@ module _ (p : Planner) (meets : (s before : List ℕ) → GivenAllows s before (
   given-not-empty = shown-not-empty p given-shown
 
   pub given-figures : (s before : List ℕ) (n b l : ℕ) → Plans p s before n b l
-      → (t : JobTable) × (xs : List Chosen) × (readTable s ≡ accepted t) × BestInOrder (t .deadline) (t .jobs) xs × TrueFigures xs n b l before (p .area s before)
+      → (t : JobTable) × (xs : List Chosen) × (readTable s ≡ accepted t) × BestInOrder (t .deadline) (t .jobs) xs ×
+      TrueFigures xs n b l before (p .area s before)
   given-figures s before n b l plans = figures-of (Possible InOrder) GivenPlan p s before n b l plans (meets s before)
 
 -- The least deadline.

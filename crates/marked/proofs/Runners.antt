@@ -62,27 +62,33 @@ unfoldable reads : Frame → ℕ → Answer
 reads f id = eventStep f (E.Read id) .answer
 
 pending-first : reads handled 1 ≡ Read Pending
-unfolding reads marked.E readTable frameAt jobsRead jobAt judged formOf listFrom used readPlan recordAt withKey listed lacksOne beginStep begun entriesOf positionsOf awayIn filled first sound? open? begun? ready? okBegun okFrom okAt okOrder okId spanStep readOf whereIs
+unfolding reads marked.E readTable frameAt jobsRead jobAt judged formOf listFrom used readPlan recordAt withKey listed lacksOne beginStep begun
+    entriesOf positionsOf awayIn filled first sound? open? begun? ready? okBegun okFrom okAt okOrder okId spanStep readOf whereIs
 pending-first = refl
 
 fresh-later : reads (runs rules handled later) 1 ≡ Read (Fresh own)
-unfolding reads marked.E readTable frameAt jobsRead jobAt judged formOf listFrom used readPlan recordAt withKey listed lacksOne beginStep begun entriesOf positionsOf awayIn filled first sound? open? begun? ready? okBegun okFrom okAt okOrder okId spanStep backStep readOf whereIs
+unfolding reads marked.E readTable frameAt jobsRead jobAt judged formOf listFrom used readPlan recordAt withKey listed lacksOne beginStep begun
+    entriesOf positionsOf awayIn filled first sound? open? begun? ready? okBegun okFrom okAt okOrder okId spanStep backStep readOf whereIs
 fresh-later = refl
 
 fresh-closed : reads closed 1 ≡ Read (Fresh own)
-unfolding reads marked.E readTable frameAt jobsRead jobAt judged formOf listFrom used readPlan recordAt withKey listed lacksOne beginStep begun entriesOf positionsOf awayIn filled first sound? open? begun? ready? okBegun okFrom okAt okOrder okId spanStep backStep closeStep readOf whereIs
+unfolding reads marked.E readTable frameAt jobsRead jobAt judged formOf listFrom used readPlan recordAt withKey listed lacksOne beginStep begun
+    entriesOf positionsOf awayIn filled first sound? open? begun? ready? okBegun okFrom okAt okOrder okId spanStep backStep closeStep readOf whereIs
 fresh-closed = refl
 
 begun-next : beginStep closed marked.E planE 2 .answer ≡ Done
-unfolding marked.E readTable frameAt jobsRead jobAt judged formOf listFrom used readPlan recordAt withKey listed lacksOne beginStep begun entriesOf positionsOf awayIn filled first sound? open? begun? ready? okBegun okFrom okAt okOrder okId spanStep backStep closeStep readOf whereIs
+unfolding marked.E readTable frameAt jobsRead jobAt judged formOf listFrom used readPlan recordAt withKey listed lacksOne beginStep begun
+    entriesOf positionsOf awayIn filled first sound? open? begun? ready? okBegun okFrom okAt okOrder okId spanStep backStep closeStep readOf whereIs
 begun-next = refl
 
 pending-next : reads (beginStep closed marked.E planE 2 .frame) 1 ≡ Read Pending
-unfolding reads marked.E readTable frameAt jobsRead jobAt judged formOf listFrom used readPlan recordAt withKey listed lacksOne beginStep begun entriesOf positionsOf awayIn filled first sound? open? begun? ready? okBegun okFrom okAt okOrder okId spanStep backStep closeStep readOf whereIs
+unfolding reads marked.E readTable frameAt jobsRead jobAt judged formOf listFrom used readPlan recordAt withKey listed lacksOne beginStep begun
+    entriesOf positionsOf awayIn filled first sound? open? begun? ready? okBegun okFrom okAt okOrder okId spanStep backStep closeStep readOf whereIs
 pending-next = refl
 
 panel-first : eventStep opened E.Next .answer ≡ Panel 1 true
-unfolding marked.E readTable frameAt jobsRead jobAt judged formOf listFrom used readPlan recordAt withKey listed lacksOne beginStep begun entriesOf positionsOf awayIn filled first sound? open? ready? okBegun okFrom okAt okOrder okId nextOf
+unfolding marked.E readTable frameAt jobsRead jobAt judged formOf listFrom used readPlan recordAt withKey listed lacksOne beginStep begun
+    entriesOf positionsOf awayIn filled first sound? open? ready? okBegun okFrom okAt okOrder okId nextOf
 panel-first = refl
 
 not-both : (x : Sample) → Read (Fresh x) ≡ Read Pending → ⊥

@@ -1,5 +1,5 @@
--- Document 01, 'What the contracts have to settle' and 'Errors that look right': the versions that have to be shut out, each as a property that a function might have.
--- proofs/ shows that no function that meets its contract has it. Assumes nothing.
+-- Document 01, 'What the contracts have to settle' and 'Errors that look right': the versions that have to be shut out, each as a property that a
+-- function might have. proofs/ shows that no function that meets its contract has it. Assumes nothing.
 use mathlib.Core.Path.{_≡_}
 use mathlib.Core.List.{List, [], _∷_, _++_, reverse}
 use Prim.Native.Nat.{ℕ, _+_, _≤_, _<_}
@@ -70,7 +70,7 @@ pub record NotEmpty (p : Planner) : Type 0 where
   pub not-nothing-written : ¬ (NothingWritten p)
   pub not-last-is-busy : ¬ (LastIsBusy p)
 
--- "a busy total that is not the sum of the plan's spans, or a last finish that is not the greatest of its finishes": xs are the jobs of the plan that is written
+-- "a busy total that is not the sum of the plan's spans, or a last finish that is not the greatest of its finishes": xs are the jobs of the written plan
 pub record TrueFigures (xs : List Chosen) (n busy last : ℕ) (before after : List ℕ) : Type 0 where
   pub written : after ≡ planBytes (stepsFor xs) ++ drop n before
   pub sum : busy ≡ total span xs

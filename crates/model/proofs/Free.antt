@@ -58,7 +58,8 @@ module _ (room : ℕ) (js : List Job) (fits : length js ≤ room) where
   mask-choice m h = (
     choose-choice js flags goes,
     choose-mask js flags m goes
-        (marked-read (positions js) (digits (length (positions js)) m) (replicate room false) (sym (digits-length (length (positions js)) m)) (positions-distinct js)
+        (marked-read (positions js) (digits (length (positions js)) m) (replicate room false)
+        (sym (digits-length (length (positions js)) m)) (positions-distinct js)
         (all-map (λ (i : ℕ) (l : i < length js). omega (arith, length-replicate room false)) (positions js) (positions-below js))) h,
   )
     where

@@ -43,6 +43,7 @@ pub struct Form {
     pub body: usize,
 }
 
+// The table of kinds: for every byte what it means, and the length of the body that follows it.
 pub fn form_of(kind: u8) -> Form
     ensures { λ r. ⌜ r ≡ formOf kind ⌝ }
 {

@@ -46,25 +46,28 @@ impl Table {
         }
     }
 
-    // The next four tie the constants to their names in specs/Limits.antt.
+    // This and the next three tie the constants to their names in specs/Limits.antt.
     pub fn most_jobs() -> usize
         ensures { λ r. ⌜ r ≡ mostJobs ⌝ }
     {
         Table::MOST_JOBS
     }
 
+    // The largest time that a table may have.
     pub fn largest_time() -> u16
         ensures { λ r. ⌜ r ≡ largestTime ⌝ }
     {
         Table::LARGEST_TIME
     }
 
+    // A table's most bytes.
     pub fn longest_table() -> usize
         ensures { λ r. ⌜ r ≡ longestTable ⌝ }
     {
         Table::LONGEST_TABLE
     }
 
+    // A plan's most bytes.
     pub fn longest_plan() -> usize
         ensures { λ r. ⌜ r ≡ longestPlan ⌝ }
     {
@@ -264,6 +267,7 @@ fn table_from(s: &[u8], first: FrameRead) -> TableRead
     TableRead { verdict, table: t }
 }
 
+// Reads any bytes as a table.
 pub fn read_table(s: &[u8]) -> TableRead
     ensures { λ r. ⌜ r ≡ tableRead (readTable (now (s .entry))) ⌝ }
 {

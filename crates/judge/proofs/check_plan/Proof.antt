@@ -32,7 +32,8 @@ returns-2 : tie.Need-returns-2
 unfolding checkPlan
 returns-2 c =
     let args = c .before .before .before .before .before .before .args in
-    ap (afterTable (now (args .plan))) (sym (read-refused (now (args .table)) _ (c .before .before .before .read-table .ensures) _ (c .before .verdict .given .1)))
+    let read = c .before .before .before .read-table .ensures in
+    ap (afterTable (now (args .plan))) (sym (read-refused (now (args .table)) _ read _ (c .before .verdict .given .1)))
 
 pub check-plan-spec : {M : Type 1} → statement M
 check-plan-spec =

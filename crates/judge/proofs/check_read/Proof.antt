@@ -38,7 +38,8 @@ returns c = search needs
 returns-2 : tie.Need-returns-2
 returns-2 c =
     let args = c .before .before .before .before .before .args in
-    passed-on (jobTable (args .t)) (readPlan (now (args .plan))) (c .before .f .given .0 .0) (sym (c .before .before .before .read-plan .ensures) ∙ c .before .f .given .1)
+    let read = c .before .before .before .read-plan .ensures in
+    passed-on (jobTable (args .t)) (readPlan (now (args .plan))) (c .before .f .given .0 .0) (sym read ∙ c .before .f .given .1)
 
 pub check-read-spec : {M : Type 1} → statement M
 check-read-spec =
