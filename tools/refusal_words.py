@@ -16,12 +16,12 @@ def rules(text):
 
 
 def arms(text):
-    """crates/table/src/refusal.rt: `Refusal::Short(p) => at_place(1, p)`."""
+    """crates/records/src/refusal.rt: `Refusal::Short(p) => at_place(1, p)`."""
     return {int(n): (word(v), None) for v, n in re.findall(r'Refusal::(\w+)(?:\(p\))? => (?:at|no)_place\((\d+)', text)}
 
 
 def clauses(text):
-    """crates/table/specs/Refusals.antt: `refusalSays (Short p) = 1 ∷ ..`."""
+    """crates/records/specs/Refusals.antt: `refusalSays (Short p) = 1 ∷ ..`."""
     return {int(n): (word(v), None) for v, n in re.findall(r'^refusalSays \(?(\w+)(?: p\))? = (\d+) ∷', text, re.M)}
 
 
@@ -54,8 +54,8 @@ def rust(text):
 
 
 PLACES = [
-    ('crates/table/src/refusal.rt', arms, True),
-    ('crates/table/specs/Refusals.antt', clauses, True),
+    ('crates/records/src/refusal.rt', arms, True),
+    ('crates/records/specs/Refusals.antt', clauses, True),
     ('include/zhiblator.h', header, True),
     ('examples/c/plan.c', c_words, True),
     ('cli/zhiblator/refusals.py', python_table, True),

@@ -8,7 +8,7 @@ use Rattle.model.specs.Lists.{All}
 use Rattle.model.specs.Timetable.{Chosen}
 use Rattle.model.specs.FreeOrder.{Fits, busy, lastFrom}
 use Rattle.model.proofs.Runs.{fits-iff-runs}
-use Rattle.table.specs.Refusals.{accepted}
+use Rattle.records.specs.Refusals.{accepted}
 use Rattle.table.specs.Tables.{JobTable}
 use Rattle.plan.specs.Plans.{planBytes, stepsFor}
 use Rattle.planner.specs.declared.Planned.{Planned}

@@ -13,7 +13,7 @@ use Rattle.model.proofs.Lists.{clash}
 use Rattle.model.proofs.Best.{none-iff-no-timetable}
 use Rattle.model.proofs.Free.{answer-choice}
 use Rattle.model.proofs.LeastDeadline.{met-mono, least-unique}
-use Rattle.table.specs.Limits.{mostJobs, largestTime}
+use Rattle.records.specs.Limits.{mostJobs, largestTime}
 use Rattle.choice.specs.declared.Prepared.{Prepared}
 use Rattle.choice.specs.declared.BestMask.{BestMask}
 use Rattle.choice.specs.declared.EarliestMet.{EarliestMet}

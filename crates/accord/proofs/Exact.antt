@@ -14,11 +14,11 @@ use Rattle.model.specs.GivenOrder.{InOrder}
 use Rattle.model.proofs.Lists.{clash}
 use Rattle.model.proofs.GivenOrder.{best-in-order-iff}
 use Rattle.model.proofs.LeastDeadline.{met-mono, least-unique}
-use Rattle.table.specs.declared.refusal.Refusal.{Refusal}
-use Rattle.table.specs.Limits.{largestTime, longestPlan}
-use Rattle.table.specs.Refusals.{refusalSays, accepted, refused}
+use Rattle.records.specs.declared.refusal.Refusal.{Refusal}
+use Rattle.records.specs.Limits.{largestTime, longestPlan}
+use Rattle.records.specs.Refusals.{refusalSays, accepted, refused}
 use Rattle.table.specs.Tables.{JobTable, readTable}
-use Rattle.table.proofs.Refusals.{says-not-zero}
+use Rattle.records.proofs.Refusals.{says-not-zero}
 use Rattle.planner.specs.declared.Planned.{Planned}
 use Rattle.planner.specs.declared.Least.{Least}
 use Rattle.planner.proofs.Settled.{best-meets}

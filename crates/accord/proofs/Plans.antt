@@ -18,10 +18,10 @@ use Rattle.model.proofs.PlanOrder.{jobOf, jobs, perm-plan}
 use Rattle.model.proofs.Timetables.{laid-spans, plan-timetable, plan-meets}
 use Rattle.model.proofs.Best.{best-least}
 use Rattle.model.proofs.GivenOrder.{choice-inorder, best-is-given, best-in-order-least}
-use Rattle.table.specs.Limits.{longestPlan}
-use Rattle.table.specs.Refusals.{accepted}
+use Rattle.records.specs.Limits.{longestPlan}
+use Rattle.records.specs.Refusals.{accepted}
 use Rattle.table.specs.Tables.{JobTable, GoodTable, readTable}
-use Rattle.table.proofs.Refusals.{says-not-zero}
+use Rattle.records.proofs.Refusals.{says-not-zero}
 use Rattle.plan.specs.declared.Step.{Step}
 use Rattle.plan.specs.Plans.{stepId, planBytes, stepOf, stepsFor}
 use Rattle.plan.proofs.Steps.{plan-length, steps-length}

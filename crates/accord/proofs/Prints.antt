@@ -15,9 +15,9 @@ use Rattle.model.specs.FreeOrder.{busy, lastFrom}
 use Rattle.model.specs.Positions.{free}
 use Rattle.model.proofs.PlanOrder.{jobs}
 use Rattle.model.proofs.Free.{free-best, free-none-iff}
-use Rattle.table.specs.declared.refusal.Refusal.the-variants.{None, Room}
-use Rattle.table.specs.Limits.{mostJobs, longestPlan}
-use Rattle.table.specs.Refusals.{Outcome, accepted, refused}
+use Rattle.records.specs.declared.refusal.Refusal.the-variants.{None, Room}
+use Rattle.records.specs.Limits.{mostJobs, longestPlan}
+use Rattle.records.specs.Refusals.{Outcome, accepted, refused}
 use Rattle.table.specs.Tables.{JobTable, readTable}
 use Rattle.table.proofs.Accepted.{accepted-good}
 use Rattle.plan.specs.Plans.{planBytes, stepsFor}

@@ -9,9 +9,9 @@ use Rattle.model.specs.declared.Job.{Job}
 use Rattle.model.specs.Lists.{greatest}
 use Rattle.model.specs.Timetable.{Chosen, Placed, chosenIn, finish, Meets, Met}
 use Rattle.model.specs.FreeOrder.{laid, spans}
-use Rattle.table.specs.declared.refusal.Refusal.{Refusal}
-use Rattle.table.specs.Limits.{largestTime, longestPlan}
-use Rattle.table.specs.Refusals.{refusalSays, accepted}
+use Rattle.records.specs.declared.refusal.Refusal.{Refusal}
+use Rattle.records.specs.Limits.{largestTime, longestPlan}
+use Rattle.records.specs.Refusals.{refusalSays, accepted}
 use Rattle.table.specs.Tables.{JobTable, runDeadline}
 use Rattle.plan.specs.Plans.{planBytes, stepsFor}
 use Rattle.planner.specs.declared.Planned.{Planned}

@@ -14,7 +14,7 @@ use Rattle.model.proofs.Lists.{clash}
 use Rattle.model.proofs.Best.{none-iff-no-timetable}
 use Rattle.model.proofs.LeastDeadline.{turn-least, met-dec, met-mono, least-unique}
 use Rattle.rows.specs.Rows.{nothing}
-use Rattle.table.specs.Limits.{largestTime}
+use Rattle.records.specs.Limits.{largestTime}
 use Rattle.choice.specs.declared.Prepared.{Prepared}
 use Rattle.choice.specs.declared.BestMask.the-variants.{Mask, Nothing}
 use Rattle.choice.specs.declared.EarliestMet.{EarliestMet}

@@ -14,7 +14,7 @@ use Rattle.model.specs.Recurrence.{jobsInAwayOrder, base}
 use Rattle.model.specs.Positions.{positions, digits, marked}
 use Rattle.model.proofs.Lists.{all-map, all-filter}
 use Rattle.model.proofs.Permutations.{all-perm, perm-falling}
-use Rattle.table.specs.Limits.{mostJobs, largestTime}
+use Rattle.records.specs.Limits.{mostJobs, largestTime}
 use Rattle.rows.specs.Rows as rows
 use Rattle.table.specs.Tables.{TimesOk}
 use Rattle.choice.specs.declared.Prepared.{Prepared}

@@ -13,7 +13,7 @@ use Rattle.model.specs.declared.Job.{Job}
 use Rattle.model.specs.Recurrence.{base}
 use Rattle.model.specs.Positions.{noJob, digits, marked}
 use Rattle.model.proofs.Permutations.{total-append}
-use Rattle.table.specs.Limits.{mostJobs}
+use Rattle.records.specs.Limits.{mostJobs}
 use Rattle.choice.specs.Choices.{hereTime, jobsAt}
 
 -- one job more adds what it keeps here in any case

@@ -11,7 +11,7 @@ use Rattle.model.specs.Lists.{All}
 use Rattle.model.specs.Recurrence.{jobsInAwayOrder, base}
 use Rattle.model.specs.Positions.{noJob, positions}
 use Rattle.model.proofs.Positions.{positions-below}
-use Rattle.table.specs.Limits.{mostJobs}
+use Rattle.records.specs.Limits.{mostJobs}
 use Rattle.order.specs.declared.AwayOrder.{AwayOrder}
 use Rattle.order.specs.Order as away
 use Rattle.table.specs.declared.Table.{Table}

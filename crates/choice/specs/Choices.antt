@@ -11,9 +11,9 @@ use Rattle.model.specs.Timetable.{isEither, Met}
 use Rattle.model.specs.FreeOrder.{LeastDeadline}
 use Rattle.model.specs.Recurrence.{Cell, empty, cell, jobsInAwayOrder, base}
 use Rattle.model.specs.Positions.{noJob, positions, digits, marked}
-use Rattle.table.specs.declared.refusal.Refusal.the-variants.{None}
-use Rattle.table.specs.Limits.{mostJobs, largestTime}
-use Rattle.table.specs.Refusals.{refusalSays}
+use Rattle.records.specs.declared.refusal.Refusal.the-variants.{None}
+use Rattle.records.specs.Limits.{mostJobs, largestTime}
+use Rattle.records.specs.Refusals.{refusalSays}
 use Rattle.table.specs.Tables.{TimesOk}
 use Rattle.choice.specs.declared.Prepared.{Prepared}
 use Rattle.choice.specs.declared.BestMask.{BestMask}

@@ -11,7 +11,7 @@ ghost use Rattle.model.specs.declared.Job.{Job};
 ghost use Rattle.model.specs.Timetable.{Met};
 ghost use Rattle.model.specs.Recurrence.{answer, base};
 ghost use Rattle.model.specs.Positions.{noJob};
-ghost use Rattle.table.specs.Limits.{largestTime, mostJobs};
+ghost use Rattle.records.specs.Limits.{largestTime, mostJobs};
 ghost use Rattle.table.specs.Tables.{jobTable, Sound};
 ghost use Rattle.choice.specs.Choices.{preparedOf, Ready, flagsOf, bestMaskOf, IsEarliest, hereTime, jobsAt, SaysWhether};
 

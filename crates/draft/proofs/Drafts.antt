@@ -17,7 +17,7 @@ use Rattle.model.proofs.Permutations.{total-append}
 use Rattle.model.proofs.Workable.{filter-append}
 use Rattle.model.proofs.Bounds.{spans-short}
 use Rattle.model.proofs.Laying.{laid-more}
-use Rattle.table.specs.Limits.{mostJobs, largestTime}
+use Rattle.records.specs.Limits.{mostJobs, largestTime}
 use Rattle.plan.specs.Plans.{planOf, stepOf, stepsFor}
 use Rattle.plan.proofs.Steps.{with-step-of, steps-append, steps-length}
 use Rattle.draft.specs.declared.Draft.{Draft}

@@ -8,7 +8,7 @@ ghost use mathlib.Core.Bool.{true};
 ghost use mathlib.Core.List.{[]};
 ghost use Prim.Native.Nat.{_≤_, _<_};
 ghost use Rattle.model.specs.Laying.{chosen, mostBusy};
-ghost use Rattle.table.specs.Limits.{mostJobs};
+ghost use Rattle.records.specs.Limits.{mostJobs};
 ghost use Rattle.draft.specs.Drafts.{draftOf, withChosen, withIf};
 
 pub struct Draft {

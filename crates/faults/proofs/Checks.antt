@@ -20,12 +20,12 @@ use Rattle.model.proofs.Lists.{clash, all-map, all-append, all-of-map}
 use Rattle.model.proofs.PlanOrder.{jobOf as theJob}
 use Rattle.model.proofs.Runs.{fits-iff-runs}
 use Rattle.model.proofs.Bounds.{fits-last}
-use Rattle.table.specs.declared.refusal.Refusal.{Refusal}
-use Rattle.table.specs.declared.refusal.Refusal.the-variants.{Stranger, Kept, Left, Late}
-use Rattle.table.specs.Refusals.{Outcome, accepted, refused}
-use Rattle.table.specs.Records.{used}
+use Rattle.records.specs.declared.refusal.Refusal.{Refusal}
+use Rattle.records.specs.declared.refusal.Refusal.the-variants.{Stranger, Kept, Left, Late}
+use Rattle.records.specs.Refusals.{Outcome, accepted, refused}
+use Rattle.records.specs.Records.{used}
 use Rattle.table.specs.Tables.{JobTable, GoodTable, jobId}
-use Rattle.table.proofs.Listed.{Distinct, unused-differs, differs-unused}
+use Rattle.records.proofs.Listed.{Distinct, unused-differs, differs-unused}
 use Rattle.lookup.specs.Lookup.{jobOf, withKey}
 use Rattle.lookup.proofs.Lookup.{with-own}
 use Rattle.plan.specs.declared.Step.{Step}

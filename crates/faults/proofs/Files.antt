@@ -13,15 +13,15 @@ use lib.Dec.{eqb, ltb}
 use borrow.Author.Tests.{eqb-true, eqb-false, ltb-true, ltb-false, lt-leb}
 use Rattle.model.specs.Lists.{All}
 use Rattle.model.proofs.Lists.{all-map, all-append, pairwise-append, member-all}
-use Rattle.table.specs.declared.refusal.Place.{Place}
-use Rattle.table.specs.declared.refusal.Refusal.{Refusal}
-use Rattle.table.specs.declared.refusal.Refusal.the-variants.{Range, Many, After}
-use Rattle.table.specs.declared.kind.Meaning.{Meaning}
-use Rattle.table.specs.Limits.{mostJobs}
-use Rattle.table.specs.Refusals.{past, refused}
-use Rattle.table.specs.Records.{formOf, judged, Parsed, one, last, bad, listFrom}
-use Rattle.table.proofs.Records as records
-use Rattle.table.proofs.Listed.{used-member, flat-more, list-step, over, overAll, readOn, good-read}
+use Rattle.records.specs.declared.refusal.Place.{Place}
+use Rattle.records.specs.declared.refusal.Refusal.{Refusal}
+use Rattle.records.specs.declared.refusal.Refusal.the-variants.{Range, Many, After}
+use Rattle.records.specs.declared.kind.Meaning.{Meaning}
+use Rattle.records.specs.Limits.{mostJobs}
+use Rattle.records.specs.Refusals.{past, refused}
+use Rattle.records.specs.Records.{formOf, judged, Parsed, one, last, bad, listFrom}
+use Rattle.records.proofs.Records as records
+use Rattle.records.proofs.Listed.{used-member, flat-more, list-step, over, overAll, readOn, good-read}
 use Rattle.table.proofs.ReadBack.{kind-byte, long}
 use Rattle.faults.specs.Faults.{joined, behind, Unread, no-byte, not-allowed, cut, Faulty, unread, many, range, twice, after, GoodList, ListFault, fault}
 

@@ -8,10 +8,10 @@ use lib.ListN.{length, length-append}
 use Rattle.model.specs.declared.Sending.{Sending}
 use Rattle.model.specs.declared.Sending.the-variants.{HereOnly, Either}
 use Rattle.model.specs.declared.Job.{Job}
-use Rattle.table.specs.declared.refusal.Place.{Place}
-use Rattle.table.specs.declared.refusal.Refusal.{Refusal}
-use Rattle.table.specs.Refusals.{refusalSays, accepted}
-use Rattle.table.specs.Limits.{longestTable}
+use Rattle.records.specs.declared.refusal.Place.{Place}
+use Rattle.records.specs.declared.refusal.Refusal.{Refusal}
+use Rattle.records.specs.Refusals.{refusalSays, accepted}
+use Rattle.records.specs.Limits.{longestTable}
 use Rattle.table.specs.Tables.{JobTable, sendingBytes, jobBytes}
 use Rattle.plan.specs.declared.Step.{Step}
 use Rattle.faults.specs.Faults.{joined, behind, Unread, no-byte, not-allowed, cut, Faulty, unread, many, range, twice, after, ListFault, fault}

@@ -10,16 +10,16 @@ use lib.ListN.{length, drop}
 use borrow.Author.Tests.{le-ltb}
 use Rattle.model.specs.Lists.{All}
 use Rattle.model.proofs.Lists.{all-all, member-all}
-use Rattle.table.specs.declared.refusal.Place.{Place}
-use Rattle.table.specs.declared.refusal.Refusal.{Refusal}
-use Rattle.table.specs.declared.refusal.Refusal.the-variants.{Many}
-use Rattle.table.specs.declared.kind.StepKind.{StepKind}
-use Rattle.table.specs.declared.kind.StepKind.the-variants.{HereStep, AwayStep, EndStep}
-use Rattle.table.specs.declared.kind.Form.{Form}
-use Rattle.table.specs.Limits.{mostJobs}
-use Rattle.table.specs.Refusals.{Outcome, accepted, refused}
-use Rattle.table.specs.Records.{formOf, stepOnly, bad}
-use Rattle.table.proofs.Records.{stepByte, form-all}
+use Rattle.records.specs.declared.refusal.Place.{Place}
+use Rattle.records.specs.declared.refusal.Refusal.{Refusal}
+use Rattle.records.specs.declared.refusal.Refusal.the-variants.{Many}
+use Rattle.records.specs.declared.kind.StepKind.{StepKind}
+use Rattle.records.specs.declared.kind.StepKind.the-variants.{HereStep, AwayStep, EndStep}
+use Rattle.records.specs.declared.kind.Form.{Form}
+use Rattle.records.specs.Limits.{mostJobs}
+use Rattle.records.specs.Refusals.{Outcome, accepted, refused}
+use Rattle.records.specs.Records.{formOf, stepOnly, bad}
+use Rattle.records.proofs.Records.{stepByte, form-all}
 use Rattle.plan.specs.declared.Step.{Step}
 use Rattle.plan.specs.declared.RecordRead.the-variants.{RecordRefused}
 use Rattle.plan.specs.Plans.{stepBody, recordAt, stepParsed, stepId, readPlan, stepBytes}

@@ -10,10 +10,10 @@ use Rattle.model.specs.Timetable.{Chosen}
 use Rattle.model.specs.FreeOrder.{busy, lastFrom}
 use Rattle.model.proofs.Lists.{clash}
 use Rattle.table.specs.declared.TableRead.{TableRead}
-use Rattle.table.specs.Refusals.{refusalSays, Outcome, accepted, refused}
+use Rattle.records.specs.Refusals.{refusalSays, Outcome, accepted, refused}
 use Rattle.table.specs.Tables.{JobTable, jobTable, tableRead, verdictSays, tableBytes}
 use Rattle.table.proofs.Accepted.{held-table}
-use Rattle.table.proofs.Refusals.{says-not-zero}
+use Rattle.records.proofs.Refusals.{says-not-zero}
 use Rattle.plan.specs.declared.Step.{Step}
 use Rattle.plan.specs.declared.PlanRead.{PlanRead}
 use Rattle.plan.specs.Plans.{planRead, planReadSays, stepsFor}

@@ -16,20 +16,20 @@ use Rattle.model.specs.Lists.{All}
 use Rattle.model.proofs.Lists.{clash, member-all}
 use Rattle.bytes.specs.Numbers.{twoBytes}
 use Rattle.bytes.proofs.Numbers.{two-from, two-whole, two-parts}
-use Rattle.table.specs.declared.refusal.Place.{Place}
-use Rattle.table.specs.declared.refusal.Refusal.{Refusal}
-use Rattle.table.specs.declared.refusal.Refusal.the-variants.{Range, Many}
-use Rattle.table.specs.declared.kind.RowKind.{RowKind}
-use Rattle.table.specs.declared.kind.RowKind.the-variants.{HereRow, EitherRow, EndRow}
-use Rattle.table.specs.declared.kind.Form.{Form}
+use Rattle.records.specs.declared.refusal.Place.{Place}
+use Rattle.records.specs.declared.refusal.Refusal.{Refusal}
+use Rattle.records.specs.declared.refusal.Refusal.the-variants.{Range, Many}
+use Rattle.records.specs.declared.kind.RowKind.{RowKind}
+use Rattle.records.specs.declared.kind.RowKind.the-variants.{HereRow, EitherRow, EndRow}
+use Rattle.records.specs.declared.kind.Form.{Form}
 use Rattle.table.specs.declared.FrameRead.the-variants.{FrameIs, FrameRefused}
 use Rattle.table.specs.declared.JobRead.the-variants.{JobRefused}
-use Rattle.table.specs.Limits.{mostJobs, largestTime}
-use Rattle.table.specs.Refusals.{start, past, Outcome, accepted, refused}
-use Rattle.table.specs.Records.{formOf, frameOnly, rowOnly, bad}
+use Rattle.records.specs.Limits.{mostJobs, largestTime}
+use Rattle.records.specs.Refusals.{start, past, Outcome, accepted, refused}
+use Rattle.records.specs.Records.{formOf, frameOnly, rowOnly, bad}
 use Rattle.table.specs.Tables.{JobTable, TimesOk, timeOk, deadlineAt, frameAt, rowBody, jobAt, jobParsed, jobId, jobsRead, afterFrame, withDeadline, readTable}
 use Rattle.table.specs.Tables.{sendingBytes, jobBytes, tableBytes}
-use Rattle.table.proofs.Records.{rowByte, form-all, frame-form, opened}
+use Rattle.records.proofs.Records.{rowByte, form-all, frame-form, opened}
 use Rattle.model.proofs.Tests.{both}
 use Rattle.table.proofs.Tables.{rowParsed}
 use Rattle.table.proofs.Written.{jobs-flat}

@@ -10,9 +10,9 @@ use Rattle.model.specs.Lists.{All}
 use Rattle.model.specs.Timetable.{Chosen, Allowed, isEither, span, wait}
 use Rattle.model.specs.FreeOrder.{busy, lastFrom}
 use Rattle.model.specs.Run.{Took, RunOf, OnTime}
-use Rattle.table.specs.declared.refusal.Refusal.{Refusal}
-use Rattle.table.specs.declared.refusal.Refusal.the-variants.{Stranger, Kept, Left, Late}
-use Rattle.table.specs.Refusals.{accepted}
+use Rattle.records.specs.declared.refusal.Refusal.{Refusal}
+use Rattle.records.specs.declared.refusal.Refusal.the-variants.{Stranger, Kept, Left, Late}
+use Rattle.records.specs.Refusals.{accepted}
 use Rattle.table.specs.Tables.{JobTable}
 use Rattle.plan.specs.declared.Step.{Step}
 use Rattle.plan.specs.Plans.{stepOf, stepsFor}

@@ -17,9 +17,9 @@ use Rattle.model.specs.Timetable.{Chosen}
 use Rattle.model.proofs.Lists.{clash, all-map, map-all, all-at}
 use Rattle.model.proofs.Permutations.{length-perm}
 use Rattle.model.proofs.PlanOrder.{jobOf as theJob}
-use Rattle.table.specs.Refusals.{Outcome, accepted, refused}
+use Rattle.records.specs.Refusals.{Outcome, accepted, refused}
 use Rattle.table.specs.Tables.{JobTable, GoodTable}
-use Rattle.table.specs.declared.refusal.Refusal.the-variants.{Left}
+use Rattle.records.specs.declared.refusal.Refusal.the-variants.{Left}
 use Rattle.lookup.specs.Lookup.{jobOf, withKey}
 use Rattle.plan.specs.declared.Step as plan
 use Rattle.plan.specs.Plans.{stepId, noStep, stepAt, readPlan, stepOf}

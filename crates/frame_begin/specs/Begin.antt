@@ -7,11 +7,11 @@ use lib.ListN.{length, getD, set, replicate}
 use lib.Dec.{ltb}
 use Rattle.model.specs.declared.Job.{Job}
 use Rattle.model.specs.Positions.{noJob}
-use Rattle.table.specs.Limits.{mostJobs}
-use Rattle.table.specs.Refusals as outcome
-use Rattle.table.specs.Refusals.{Outcome, accepted}
+use Rattle.records.specs.Limits.{mostJobs}
+use Rattle.records.specs.Refusals as outcome
+use Rattle.records.specs.Refusals.{Outcome, accepted}
 use Rattle.table.specs.Tables.{JobTable, readTable}
-use Rattle.table.specs.declared.refusal.Refusal.the-variants as R
+use Rattle.records.specs.declared.refusal.Refusal.the-variants as R
 use Rattle.plan.specs.declared.Step as plan
 use Rattle.plan.specs.Plans.{stepId, noStep, readPlan}
 use Rattle.judge.specs.declared.Checked.{Checked}

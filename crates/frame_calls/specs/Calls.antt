@@ -3,7 +3,7 @@
 use Prim.Native.Nat.{ℕ}
 use mathlib.Core.Bool.{cond}
 use lib.Dec.{ltb}
-use Rattle.table.specs.declared.refusal.Refusal.the-variants as R
+use Rattle.records.specs.declared.refusal.Refusal.the-variants as R
 use Rattle.frame_record.specs.Sound.{entryAt, whereIs, panelEntry, isOpen, open?, begun?}
 use Rattle.frame_record.specs.Answers.{refused, done, inOpen, onClock}
 use Rattle.frame_record.specs.declared.Phase.{Phase}

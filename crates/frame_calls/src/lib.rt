@@ -9,7 +9,7 @@ use frame_record::Standing;
 use frame_reports::give_back;
 use frame_reports::span_end;
 use lookup::Found;
-use table::refusal::Refusal;
+use records::refusal::Refusal;
 ghost use mathlib.Core.Path.{_≡_};
 ghost use Rattle.frame_record.specs.Answers.{done};
 ghost use Rattle.frame_calls.specs.Calls.{nextOf, closed, closeStep, unreported, readingOf, readOf, asked, eventStep};

@@ -12,7 +12,7 @@ use lib.Dec.{leb, ltb, eqb}
 use lib.Ieee.{Float}
 use Rattle.model.specs.Positions.{noJob}
 use Rattle.model.proofs.Lists.{clash}
-use Rattle.table.specs.Records.{used}
+use Rattle.records.specs.Records.{used}
 use Rattle.table.specs.Tables.{JobTable}
 use Rattle.plan.specs.declared.Step as plan
 use Rattle.plan.specs.Plans.{stepId, noStep}

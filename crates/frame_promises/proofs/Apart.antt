@@ -10,8 +10,8 @@ use borrow.Author.Tests.{eqb-true}
 use lib.Dec.{leb, eqb}
 use lib.Ieee.{Float}
 use Rattle.model.specs.declared.Job.{Job}
-use Rattle.table.specs.Refusals as outcome
-use Rattle.table.specs.Refusals.{Outcome, accepted}
+use Rattle.records.specs.Refusals as outcome
+use Rattle.records.specs.Refusals.{Outcome, accepted}
 use Rattle.table.specs.Tables.{JobTable, readTable}
 use Rattle.lookup.specs.Lookup.{jobOf}
 use Rattle.plan.specs.declared.Step as plan

@@ -8,9 +8,9 @@ use mathlib.Core.Logic.{_↔_}
 use mathlib.Core.List.{List, [], _∷_, _++_}
 use borrow.Author.Tests.{ltb-true, lt-ltb}
 use lib.Dec.{ltb}
-use Rattle.table.specs.declared.refusal.Refusal.{Refusal}
-use Rattle.table.specs.Refusals.{refusalSays}
-use Rattle.table.proofs.Refusals.{says-not-zero}
+use Rattle.records.specs.declared.refusal.Refusal.{Refusal}
+use Rattle.records.specs.Refusals.{refusalSays}
+use Rattle.records.proofs.Refusals.{says-not-zero}
 use Rattle.judge.specs.declared.Checked.{Checked}
 use Rattle.judge.specs.declared.Checked.the-variants as checked
 use Rattle.judge.specs.Check.{checkedSays, checkPlan}

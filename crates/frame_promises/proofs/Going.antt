@@ -15,7 +15,7 @@ use lib.Seq.{drop-cons}
 use lib.Dec.{ltb}
 use lib.Ieee.{Float}
 use Rattle.model.proofs.Lists.{clash}
-use Rattle.table.specs.Records.{used}
+use Rattle.records.specs.Records.{used}
 use Rattle.table.specs.Tables.{JobTable}
 use Rattle.plan.specs.declared.Step.{Step}
 use Rattle.plan.specs.Plans.{stepId, noStep, stepOf}

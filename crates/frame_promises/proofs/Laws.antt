@@ -10,10 +10,10 @@ use lib.ListN.{length, getD, drop}
 use lib.Dec.{eqb}
 use Rattle.model.specs.declared.Job.{Job}
 use Rattle.model.specs.Positions.{noJob}
-use Rattle.table.specs.Records.{used}
-use Rattle.table.specs.declared.refusal.Refusal.{Refusal}
-use Rattle.table.specs.Refusals.{refusalSays}
-use Rattle.table.proofs.Refusals.{says-numbered}
+use Rattle.records.specs.Records.{used}
+use Rattle.records.specs.declared.refusal.Refusal.{Refusal}
+use Rattle.records.specs.Refusals.{refusalSays}
+use Rattle.records.proofs.Refusals.{says-numbered}
 use Rattle.lookup.specs.Lookup.{jobOf, withKey}
 use Rattle.frame_record.specs.Answers.{says}
 use Rattle.frame_promises.specs.Call.{Call}

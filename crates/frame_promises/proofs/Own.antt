@@ -15,10 +15,10 @@ use Rattle.model.specs.FreeOrder.{busy, lastFrom}
 use Rattle.model.specs.Run.{Took, RunOf, OnTime}
 use Rattle.model.proofs.Lists.{clash, all-at, member-all}
 use Rattle.model.proofs.PlanOrder.{jobOf as theJob}
-use Rattle.table.specs.Refusals.{Outcome, accepted}
+use Rattle.records.specs.Refusals.{Outcome, accepted}
 use Rattle.table.specs.Tables.{JobTable, readTable}
 use Rattle.table.proofs.Accepted.{accepted-good}
-use Rattle.table.proofs.Refusals.{says-not-zero}
+use Rattle.records.proofs.Refusals.{says-not-zero}
 use Rattle.plan.specs.declared.Step.{Step}
 use Rattle.plan.specs.Plans.{noStep, readPlan, stepOf, stepsFor}
 use Rattle.judge.specs.declared.Checked.{Checked}

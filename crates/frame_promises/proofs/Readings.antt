@@ -13,7 +13,7 @@ use lib.Ieee.{Float}
 use Rattle.model.specs.declared.Job.{Job}
 use Rattle.model.specs.Lists.{All}
 use Rattle.model.proofs.Lists.{clash, member-all}
-use Rattle.table.specs.Refusals as outcome
+use Rattle.records.specs.Refusals as outcome
 use Rattle.table.specs.Tables.{JobTable, readTable}
 use Rattle.lookup.specs.Lookup.{jobOf, withKey}
 use Rattle.plan.specs.declared.Step as plan

@@ -7,8 +7,8 @@ use mathlib.Core.Bool.{false}
 use mathlib.Core.List.{[], _∷_}
 use lib.ListN.{getD}
 use Rattle.model.proofs.Lists.{clash}
-use Rattle.table.specs.declared.refusal.Refusal.{Refusal}
-use Rattle.table.specs.declared.refusal.Refusal.the-variants as R
+use Rattle.records.specs.declared.refusal.Refusal.{Refusal}
+use Rattle.records.specs.declared.refusal.Refusal.the-variants as R
 use Rattle.frame_record.specs.Sound.{sound?, open?, begun?, ready?}
 use Rattle.frame_record.specs.Answers.{says, answerSays, refused, done}
 use Rattle.frame_reports.specs.Reports.{spanStep, backStep}

@@ -12,10 +12,10 @@ use lib.Dec.{ltb, eqb}
 use lib.Ieee.{Float}
 use Rattle.model.specs.Lists.{All, Pairwise}
 use Rattle.model.proofs.Lists.{clash, all-append, member-all}
-use Rattle.table.specs.Records.{used}
-use Rattle.table.specs.declared.refusal.Refusal.{Refusal}
-use Rattle.table.specs.Refusals as outcome
-use Rattle.table.specs.Refusals.{Outcome, accepted, refusalSays}
+use Rattle.records.specs.Records.{used}
+use Rattle.records.specs.declared.refusal.Refusal.{Refusal}
+use Rattle.records.specs.Refusals as outcome
+use Rattle.records.specs.Refusals.{Outcome, accepted, refusalSays}
 use Rattle.table.specs.Tables.{JobTable, readTable}
 use Rattle.plan.specs.declared.Step as plan
 use Rattle.plan.specs.Plans.{stepId, readPlan}

@@ -13,11 +13,11 @@ use lib.Seq.{drop-cons}
 use lib.Dec.{leb, ltb, eqb}
 use lib.Ieee.{Float}
 use Rattle.model.proofs.Lists.{clash}
-use Rattle.table.specs.declared.refusal.Refusal.{Refusal}
-use Rattle.table.specs.declared.refusal.Refusal.the-variants as R
-use Rattle.table.specs.Records.{used}
-use Rattle.table.specs.Refusals as outcome
-use Rattle.table.specs.Refusals.{Outcome, accepted, refusalSays}
+use Rattle.records.specs.declared.refusal.Refusal.{Refusal}
+use Rattle.records.specs.declared.refusal.Refusal.the-variants as R
+use Rattle.records.specs.Records.{used}
+use Rattle.records.specs.Refusals as outcome
+use Rattle.records.specs.Refusals.{Outcome, accepted, refusalSays}
 use Rattle.table.specs.Tables.{JobTable, readTable}
 use Rattle.table.proofs.Accepted.{accepted-good}
 use Rattle.plan.specs.declared.Step as plan

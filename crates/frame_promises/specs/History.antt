@@ -8,8 +8,8 @@ use lib.ListN.{getD}
 use lib.Dec.{leb, ltb, eqb}
 use lib.Ieee.{Float}
 use Rattle.model.specs.declared.Job.{Job}
-use Rattle.table.specs.Records.{used}
-use Rattle.table.specs.Refusals.{Outcome, accepted, refused, refusalSays}
+use Rattle.records.specs.Records.{used}
+use Rattle.records.specs.Refusals.{Outcome, accepted, refused, refusalSays}
 use Rattle.table.specs.Tables.{JobTable, readTable}
 use Rattle.lookup.specs.Lookup.{jobOf}
 use Rattle.plan.specs.declared.Step.{Step}

@@ -11,7 +11,7 @@ use Rattle.model.specs.Lists.{All, total}
 use Rattle.model.specs.Positions.{noChoice}
 use Rattle.model.specs.Timetable.{Chosen}
 use Rattle.model.specs.Run.{Took}
-use Rattle.table.specs.Refusals.{accepted}
+use Rattle.records.specs.Refusals.{accepted}
 use Rattle.table.specs.Tables.{JobTable}
 use Rattle.plan.specs.declared.Step.{Step}
 use Rattle.plan.specs.Plans.{stepsFor}

@@ -6,7 +6,7 @@ use mathlib.Core.List.{List, [], _∷_, _++_, List·Memᴰ}
 use lib.Ieee.{Float}
 use Rattle.model.specs.declared.Job.{Job}
 use Rattle.model.specs.Lists.{All}
-use Rattle.table.specs.Refusals as outcome
+use Rattle.records.specs.Refusals as outcome
 use Rattle.table.specs.Tables.{JobTable, readTable}
 use Rattle.plan.specs.declared.Step.{Step}
 use Rattle.plan.specs.Plans.{readPlan}

@@ -6,8 +6,8 @@ use mathlib.Core.Bool.{Bool, true, false, cond}
 use mathlib.Core.List.{List, [], _∷_}
 use lib.ListN.{getD}
 use Rattle.model.proofs.Lists.{clash}
-use Rattle.table.specs.declared.refusal.Refusal.{Refusal}
-use Rattle.table.proofs.Refusals.{says-injective, says-numbered}
+use Rattle.records.specs.declared.refusal.Refusal.{Refusal}
+use Rattle.records.proofs.Refusals.{says-injective, says-numbered}
 use Rattle.frame_record.specs.Answers.{Reply, readingSays, answerSays}
 use Rattle.frame_record.specs.declared.Sample.{Sample}
 use Rattle.frame_record.specs.declared.Reading.{Reading}

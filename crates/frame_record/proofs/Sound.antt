@@ -8,7 +8,7 @@ use mathlib.Core.List.{List}
 use borrow.Author.Tests.{leb-true, ltb-true, ltb-false, eqb-true, le-leb, lt-ltb, le-ltb, eq-eqb, not-true}
 use lib.ListN.{getD}
 use lib.Dec.{leb, ltb, eqb}
-use Rattle.table.specs.Limits.{mostJobs}
+use Rattle.records.specs.Limits.{mostJobs}
 use Rattle.lookup.specs.Lookup.{first}
 use Rattle.frame_record.specs.Sound.{none, entryAt, positionAt, entryId, itself, isAt, okId, okStanding, okEntry, okOrder, okAt, okFrom, okCounts}
 use Rattle.frame_record.specs.Sound.{okDeadline, okBegun, okIn, isOpen, sound?, open?}

@@ -7,10 +7,10 @@ use mathlib.Core.Option.{Option, none, some}
 use lib.ListN.{replicate}
 use lib.Dec.{ltb}
 use lib.Ieee.{Float}
-use Rattle.table.specs.Limits.{mostJobs}
-use Rattle.table.specs.declared.refusal.Refusal.{Refusal}
-use Rattle.table.specs.declared.refusal.Refusal.the-variants as R
-use Rattle.table.specs.Refusals.{refusalSays}
+use Rattle.records.specs.Limits.{mostJobs}
+use Rattle.records.specs.declared.refusal.Refusal.{Refusal}
+use Rattle.records.specs.declared.refusal.Refusal.the-variants as R
+use Rattle.records.specs.Refusals.{refusalSays}
 use Rattle.frame_record.specs.Sound as S
 use Rattle.frame_record.specs.Sound.{open?}
 use Rattle.frame_record.specs.declared.Phase.the-variants.{Idle}

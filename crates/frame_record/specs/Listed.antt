@@ -2,7 +2,7 @@
 use Prim.Native.Nat.{ℕ, _≤_, _<_}
 use mathlib.Core.Path.{_≡_}
 use mathlib.Core.Bool.{Bool, true}
-use Rattle.table.specs.Limits.{mostJobs, largestTime}
+use Rattle.records.specs.Limits.{mostJobs, largestTime}
 use Rattle.frame_record.specs.Finite.{finite?}
 use Rattle.frame_record.specs.Sound.{entryAt, positionAt}
 use Rattle.frame_record.specs.declared.Phase.{Phase}

@@ -1,12 +1,12 @@
 // The frame's record: what the panel's loop keeps of a frame, what a call answers, and the test that every call makes first.
 // An unsound record is refused PHASE by every call and stays as found.
 use lookup::Found;
+use records::refusal::Refusal;
 use table::Table;
-use table::refusal::Refusal;
 ghost use mathlib.Core.Path.{_≡_};
 ghost use mathlib.Core.Bool.{_&&_};
 ghost use Prim.Native.Nat.{_≤_};
-ghost use Rattle.table.specs.Limits.{mostJobs};
+ghost use Rattle.records.specs.Limits.{mostJobs};
 ghost use Rattle.frame_record.specs.Finite.{finite?};
 ghost use Rattle.frame_record.specs.Sound.{whereIs, okEntry, okFrom, okBegun, sound?, phaseIn};
 ghost use Rattle.frame_record.specs.Answers.{idle, refused};

@@ -5,7 +5,7 @@ use mathlib.Core.Bool.{Bool, true, false, cond, _&&_}
 use lib.ListN.{set}
 use lib.Dec.{leb, ltb, eqb}
 use lib.Ieee.{Float}
-use Rattle.table.specs.declared.refusal.Refusal.the-variants as R
+use Rattle.records.specs.declared.refusal.Refusal.the-variants as R
 use Rattle.frame_record.specs.Finite.{finite?}
 use Rattle.frame_record.specs.Sound.{entryAt, whereIs, panelPosition, panelEntry}
 use Rattle.frame_record.specs.Answers.{refused, done, inOpen, onClock}

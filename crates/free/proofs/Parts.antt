@@ -18,7 +18,7 @@ use Rattle.model.proofs.Lists.{all-at, all-map, map-all, at-any, filter-length}
 use Rattle.model.proofs.Positions.{positions-below}
 use Rattle.model.proofs.Bounds.{span-short}
 use Rattle.model.proofs.Flags.{choose-away, choose-jobs}
-use Rattle.table.specs.Limits.{largestTime, mostJobs}
+use Rattle.records.specs.Limits.{largestTime, mostJobs}
 use Rattle.table.specs.Tables.{TimesOk}
 use Rattle.choice.specs.declared.Prepared.{Prepared}
 use Rattle.choice.specs.Choices.{SoundJobs, preparedOf, jobsAt}

@@ -18,7 +18,7 @@ use Rattle.model.proofs.Permutations.{length-perm}
 use Rattle.model.proofs.PlanOrder.{perm-plan}
 use Rattle.model.proofs.Positions.{order-positions}
 use Rattle.model.proofs.Free.{answer-choice}
-use Rattle.table.specs.Limits.{mostJobs, largestTime}
+use Rattle.records.specs.Limits.{mostJobs, largestTime}
 use Rattle.choice.specs.declared.BestMask.the-variants.{Mask, Nothing}
 use Rattle.choice.specs.Choices.{SoundJobs, flagsOf, bestMaskOf}
 use Rattle.draft.specs.declared.Draft.{Draft}

@@ -10,7 +10,7 @@ use Rattle.model.specs.Lists.{All, filter}
 use Rattle.model.specs.Timetable.{Chosen, here, span}
 use Rattle.model.specs.FreeOrder.{busy}
 use Rattle.model.specs.Positions.{noChoice, positions, choose}
-use Rattle.table.specs.Limits.{mostJobs, largestTime}
+use Rattle.records.specs.Limits.{mostJobs, largestTime}
 use Rattle.draft.specs.declared.Draft.{Draft}
 use Rattle.draft.specs.Drafts.{draftOf}
 

@@ -14,7 +14,7 @@ ghost use Rattle.model.specs.Lists.{filter};
 ghost use Rattle.model.specs.Timetable.{Chosen, here};
 ghost use Rattle.model.specs.FreeOrder.{isAway};
 ghost use Rattle.model.specs.Positions.{choose, free};
-ghost use Rattle.table.specs.Limits.{mostJobs};
+ghost use Rattle.records.specs.Limits.{mostJobs};
 ghost use Rattle.draft.specs.Drafts.{draftOf, draftedOf};
 ghost use Rattle.table.specs.Tables.{jobTable, Sound};
 ghost use Rattle.choice.specs.Choices.{SoundJobs, preparedOf, Ready};

@@ -18,7 +18,7 @@ use Rattle.model.specs.Positions.{noJob}
 use Rattle.model.proofs.Lists.{clash}
 use Rattle.model.proofs.Permutations.{total-append}
 use Rattle.model.proofs.GivenOrder.{given-on, decide-fits}
-use Rattle.table.specs.Limits.{mostJobs}
+use Rattle.records.specs.Limits.{mostJobs}
 use Rattle.draft.specs.declared.Draft.{Draft}
 use Rattle.draft.specs.declared.Drafted.{Drafted}
 use Rattle.draft.specs.Drafts.{draftOf, withChosen, draftedOf}

@@ -12,7 +12,7 @@ ghost use Prim.Native.Nat.{_≤_};
 ghost use lib.ListN.{take};
 ghost use Rattle.model.specs.GivenOrder.{goes, decide, given};
 ghost use Rattle.model.specs.Laying.{mostBusy};
-ghost use Rattle.table.specs.Limits.{mostJobs};
+ghost use Rattle.records.specs.Limits.{mostJobs};
 ghost use Rattle.draft.specs.Drafts.{draftedOf};
 ghost use Rattle.given.specs.Given.{decisionOf};
 

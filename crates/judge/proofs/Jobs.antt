@@ -18,11 +18,11 @@ use Rattle.model.specs.Laying.{chosen}
 use Rattle.model.proofs.PlanOrder.{jobOf as theJob, jobs as jobsOf}
 use Rattle.model.proofs.Lists.{clash, all-map, all-zip, member-all, all-members, all-of-map, pairwise-of-map}
 use Rattle.model.proofs.Permutations.{all-perm, pairwise-perm, length-perm}
-use Rattle.table.specs.declared.refusal.Refusal.the-variants.{Kept}
-use Rattle.table.specs.Refusals.{Outcome, accepted, refused}
-use Rattle.table.specs.Records.{used}
+use Rattle.records.specs.declared.refusal.Refusal.the-variants.{Kept}
+use Rattle.records.specs.Refusals.{Outcome, accepted, refused}
+use Rattle.records.specs.Records.{used}
 use Rattle.table.specs.Tables.{jobId}
-use Rattle.table.proofs.Listed.{Distinct, used-member}
+use Rattle.records.proofs.Listed.{Distinct, used-member}
 use Rattle.lookup.specs.Lookup.{jobOf}
 use Rattle.lookup.proofs.Lookup.{with-tells}
 use Rattle.plan.specs.declared.Step.{Step}

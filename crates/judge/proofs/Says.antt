@@ -3,9 +3,9 @@
 use Prim.Native.Nat.{ℕ}
 use mathlib.Core.Path.{_≡_, sym, ap}
 use mathlib.Core.List.{[], _∷_}
-use Rattle.table.specs.declared.refusal.Refusal.{Refusal}
-use Rattle.table.specs.Refusals.{refusalSays}
-use Rattle.table.proofs.Refusals.{says-injective, says-not-zero}
+use Rattle.records.specs.declared.refusal.Refusal.{Refusal}
+use Rattle.records.specs.Refusals.{refusalSays}
+use Rattle.records.proofs.Refusals.{says-injective, says-not-zero}
 use Rattle.judge.specs.declared.Checked.{Checked}
 use Rattle.judge.specs.declared.Checked.the-variants.{Passes, Fails}
 use Rattle.judge.specs.Check.{checkedSays}

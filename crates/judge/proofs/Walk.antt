@@ -19,10 +19,10 @@ use Rattle.model.specs.FreeOrder.{busy, lastFrom}
 use Rattle.model.specs.Laying.{chosen, laidOf, laidWith, mostBusy}
 use Rattle.model.proofs.Lists.{clash, all-map, member-all}
 use Rattle.model.proofs.Laying.{laid-more}
-use Rattle.table.specs.declared.refusal.Refusal.{Refusal}
-use Rattle.table.specs.declared.refusal.Refusal.the-variants.{Stranger, Kept, Left, Late}
-use Rattle.table.specs.Limits.{largestTime}
-use Rattle.table.specs.Refusals.{Outcome, accepted, refused}
+use Rattle.records.specs.declared.refusal.Refusal.{Refusal}
+use Rattle.records.specs.declared.refusal.Refusal.the-variants.{Stranger, Kept, Left, Late}
+use Rattle.records.specs.Limits.{largestTime}
+use Rattle.records.specs.Refusals.{Outcome, accepted, refused}
 use Rattle.table.specs.Tables.{JobTable, TimesOk, GoodTable, jobId}
 use Rattle.lookup.specs.Lookup.{jobOf}
 use Rattle.lookup.proofs.Lookup.{with-tells}

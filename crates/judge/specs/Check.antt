@@ -9,9 +9,9 @@ use Rattle.model.specs.declared.Job.{Job}
 use Rattle.model.specs.Timetable.{Chosen, isEither}
 use Rattle.model.specs.FreeOrder.{busy, lastFrom}
 use Rattle.model.specs.Laying.{chosen}
-use Rattle.table.specs.declared.refusal.Refusal.the-variants.{Stranger, Kept, Left, Late}
-use Rattle.table.specs.Refusals.{refusalSays, Outcome, accepted, refused}
-use Rattle.table.specs.Records.{used}
+use Rattle.records.specs.declared.refusal.Refusal.the-variants.{Stranger, Kept, Left, Late}
+use Rattle.records.specs.Refusals.{refusalSays, Outcome, accepted, refused}
+use Rattle.records.specs.Records.{used}
 use Rattle.table.specs.Tables.{JobTable, readTable}
 use Rattle.lookup.specs.Lookup.{jobOf}
 use Rattle.plan.specs.declared.Step.{Step}

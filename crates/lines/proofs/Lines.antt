@@ -7,8 +7,8 @@ use Prim.Native.Nat.{ℕ, _+_, _≤_, _<_}
 use native.Mathlib.Omega.{arith}
 use lib.ListN.{length, length-append}
 use Rattle.model.proofs.Lists.{clash}
-use Rattle.table.specs.declared.refusal.Said.{Said}
-use Rattle.table.specs.Refusals.{saidBy}
+use Rattle.records.specs.declared.refusal.Said.{Said}
+use Rattle.records.specs.Refusals.{saidBy}
 use Rattle.bytes.specs.Decimals.{decimal}
 use Rattle.bytes.proofs.Decimals.{few-digits}
 use Rattle.lines.specs.Lines.{newline, pairLine, refusedWord, atWord, refusedText, refusedRoom}

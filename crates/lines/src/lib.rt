@@ -1,11 +1,11 @@
 // What every line of text is made of: a word with a number behind it, two of them on a line, and the line of a refusal.
 // The lister, the replay and what comes after them write these into a lent area, at a place of it (`Wrote` of crate bytes).
-use table::refusal;
-use table::refusal::Refusal;
+use records::refusal;
+use records::refusal::Refusal;
 ghost use mathlib.Core.List.{_++_};
 ghost use Prim.Native.Nat.{_+_, _≤_};
 ghost use lib.ListN.{length};
-ghost use Rattle.table.specs.Refusals.{refusalSays};
+ghost use Rattle.records.specs.Refusals.{refusalSays};
 ghost use Rattle.bytes.specs.Decimals.{decimal};
 ghost use Rattle.bytes.specs.Writing.{Wrote};
 ghost use Rattle.lines.specs.Lines.{pairLine, refusedText, refusedRoom};

@@ -3,7 +3,7 @@
 use mathlib.Core.Path.{_≡_, refl}
 use mathlib.Core.List.{List, [], _∷_, _++_}
 use Prim.Native.Nat.{ℕ}
-use Rattle.table.specs.Records.{formOf, judged, used, listFrom}
+use Rattle.records.specs.Records.{formOf, judged, used, listFrom}
 use Rattle.table.specs.Tables.{frameAt, jobAt, jobsRead, readTable}
 use Rattle.bytes.specs.Decimals.{digitsIn, decimal}
 use Rattle.lines.specs.Lines.{pairLine, refusedText}

@@ -14,9 +14,9 @@ use Rattle.model.specs.FreeOrder.{Choice}
 use Rattle.model.specs.Positions.{noJob}
 use Rattle.model.proofs.Lists.{all-map, all-members, all-of-map}
 use Rattle.model.proofs.Permutations.{all-perm}
-use Rattle.table.specs.Limits.{mostJobs}
+use Rattle.records.specs.Limits.{mostJobs}
 use Rattle.table.specs.Tables.{jobId}
-use Rattle.table.proofs.Listed.{Distinct}
+use Rattle.records.proofs.Listed.{Distinct}
 use Rattle.lookup.specs.Lookup.{Indexes}
 use Rattle.lookup.proofs.Lookup.{with-own, index-tells, index-none}
 use Rattle.plan.specs.Plans.{stepsFor}

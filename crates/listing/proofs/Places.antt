@@ -8,13 +8,13 @@ use lib.ListN.{length, getD, length-append}
 use Rattle.model.specs.declared.Job.{Job}
 use Rattle.model.specs.Lists.{All}
 use Rattle.model.proofs.Lists.{all-append}
-use Rattle.table.specs.Limits.{mostJobs}
-use Rattle.table.specs.declared.refusal.Place.{Place}
-use Rattle.table.specs.Refusals.{start, past, accepted}
-use Rattle.table.specs.Records.{one}
+use Rattle.records.specs.Limits.{mostJobs}
+use Rattle.records.specs.declared.refusal.Place.{Place}
+use Rattle.records.specs.Refusals.{start, past, accepted}
+use Rattle.records.specs.Records.{one}
 use Rattle.table.specs.Tables.{JobTable, jobId, jobsRead, readTable}
 use Rattle.table.proofs.Written.{row-next}
-use Rattle.table.proofs.Listed.{listed-all}
+use Rattle.records.proofs.Listed.{listed-all}
 use Rattle.table.proofs.Tables.{rowParsed, RowIs, row-here, row-either, row-is, row-few}
 use Rattle.table.proofs.Accepted.{accepted-read}
 

@@ -11,23 +11,23 @@ use lib.Seq.{getD-take}
 use lib.Dec.{ltb, leb}
 use borrow.Author.Tests.{ltb-true, ltb-false, leb-true, leb-false, lt-ltb, le-ltb, le-leb, lt-leb}
 use Rattle.model.specs.declared.Job.{Job}
-use Rattle.table.specs.declared.refusal.Refusal.{Refusal}
-use Rattle.table.specs.declared.refusal.Refusal.the-variants.{Short, Twice, After}
-use Rattle.table.specs.declared.kind.RowKind.{RowKind}
-use Rattle.table.specs.declared.kind.RowKind.the-variants.{HereRow, EitherRow, EndRow}
-use Rattle.table.specs.declared.kind.StepKind.{StepKind}
-use Rattle.table.specs.declared.kind.StepKind.the-variants.{HereStep, AwayStep, EndStep}
-use Rattle.table.specs.declared.kind.Meaning.{Meaning}
-use Rattle.table.specs.declared.kind.Form.{Form}
-use Rattle.table.specs.declared.refusal.Place.{Place}
+use Rattle.records.specs.declared.refusal.Refusal.{Refusal}
+use Rattle.records.specs.declared.refusal.Refusal.the-variants.{Short, Twice, After}
+use Rattle.records.specs.declared.kind.RowKind.{RowKind}
+use Rattle.records.specs.declared.kind.RowKind.the-variants.{HereRow, EitherRow, EndRow}
+use Rattle.records.specs.declared.kind.StepKind.{StepKind}
+use Rattle.records.specs.declared.kind.StepKind.the-variants.{HereStep, AwayStep, EndStep}
+use Rattle.records.specs.declared.kind.Meaning.{Meaning}
+use Rattle.records.specs.declared.kind.Form.{Form}
+use Rattle.records.specs.declared.refusal.Place.{Place}
 use Rattle.table.specs.declared.FrameRead.{FrameRead}
 use Rattle.table.specs.declared.FrameRead.the-variants.{FrameRefused}
 use Rattle.table.specs.declared.JobRead.the-variants.{JobRefused}
-use Rattle.table.specs.Limits.{mostJobs}
-use Rattle.table.specs.Refusals.{start, past, Outcome, accepted, refused}
-use Rattle.table.specs.Records.{formOf, frameOnly, rowOnly, allowed, judged, Parsed, one, last, bad, used, follow, listFrom}
+use Rattle.records.specs.Limits.{mostJobs}
+use Rattle.records.specs.Refusals.{start, past, Outcome, accepted, refused}
+use Rattle.records.specs.Records.{formOf, frameOnly, rowOnly, allowed, judged, Parsed, one, last, bad, used, follow, listFrom}
 use Rattle.table.specs.Tables.{deadlineAt, frameAt, rowBody, jobAt, jobParsed, jobId, jobsRead, withDeadline, afterFrame, readTable}
-use Rattle.table.proofs.Records.{rowLength, stepLength, form-all}
+use Rattle.records.proofs.Records.{rowLength, stepLength, form-all}
 use Rattle.table.proofs.Tables.{frame-all, rowParsed, row-is}
 use Rattle.listing.specs.Listing.{outcomeText, textOf}
 use Rattle.table.proofs.Written.{end-next}

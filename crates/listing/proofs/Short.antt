@@ -18,9 +18,9 @@ use Rattle.model.proofs.PlanOrder.{perm-plan}
 use Rattle.model.proofs.Bounds.{fits-last}
 use Rattle.model.proofs.Workable.{fits-sum}
 use Rattle.model.proofs.Free.{free-best}
-use Rattle.table.specs.declared.refusal.Refusal.the-variants.{None}
-use Rattle.table.specs.Limits.{mostJobs}
-use Rattle.table.specs.Refusals.{refusalSays, Outcome, accepted, refused}
+use Rattle.records.specs.declared.refusal.Refusal.the-variants.{None}
+use Rattle.records.specs.Limits.{mostJobs}
+use Rattle.records.specs.Refusals.{refusalSays, Outcome, accepted, refused}
 use Rattle.table.specs.Tables.{JobTable, readTable}
 use Rattle.table.proofs.Accepted.{accepted-good}
 use Rattle.planner.proofs.Orders.{free-many}

@@ -13,13 +13,13 @@ use Rattle.model.specs.Positions.{free}
 use Rattle.model.proofs.Lists.{clash}
 use Rattle.model.proofs.PlanOrder.{perm-plan}
 use Rattle.model.proofs.Free.{free-best}
-use Rattle.table.specs.declared.refusal.Refusal.{Refusal}
-use Rattle.table.specs.declared.refusal.Refusal.the-variants.{Room}
+use Rattle.records.specs.declared.refusal.Refusal.{Refusal}
+use Rattle.records.specs.declared.refusal.Refusal.the-variants.{Room}
 use Rattle.table.specs.declared.Table.{Table}
 use Rattle.table.specs.declared.TableRead.{TableRead}
 use Rattle.table.specs.declared.TableVerdict.the-variants.{Whole}
-use Rattle.table.specs.Limits.{mostJobs}
-use Rattle.table.specs.Refusals.{refusalSays, Outcome, accepted, refused}
+use Rattle.records.specs.Limits.{mostJobs}
+use Rattle.records.specs.Refusals.{refusalSays, Outcome, accepted, refused}
 use Rattle.table.specs.Tables.{JobTable, jobTable, tableRead, readTable}
 use Rattle.table.proofs.Accepted.{held-table}
 use Rattle.plan.specs.Plans.{stepsOf, stepsFor}

@@ -10,8 +10,8 @@ use Rattle.model.specs.FreeOrder.{laid}
 use Rattle.model.specs.Laying.{chosen}
 use Rattle.model.specs.Positions.{noJob}
 use Rattle.table.specs.declared.Table.{Table}
-use Rattle.table.specs.declared.refusal.Refusal.the-variants.{None}
-use Rattle.table.specs.Refusals.{refusalSays}
+use Rattle.records.specs.declared.refusal.Refusal.the-variants.{None}
+use Rattle.records.specs.Refusals.{refusalSays}
 use Rattle.table.specs.Tables.{jobTable}
 use Rattle.lookup.specs.Lookup.{jobOf}
 use Rattle.plan.specs.declared.Plan.{Plan}

@@ -9,9 +9,9 @@ use lib.ListN.{length, drop}
 use Rattle.model.specs.Timetable.{Chosen, Placed, spanEnd, finish}
 use Rattle.model.specs.FreeOrder.{laid, busy, lastFrom}
 use Rattle.model.specs.Positions.{free}
-use Rattle.table.specs.declared.refusal.Refusal.the-variants.{None, Room}
-use Rattle.table.specs.Limits.{mostJobs}
-use Rattle.table.specs.Refusals.{refusalSays, Outcome, accepted, refused}
+use Rattle.records.specs.declared.refusal.Refusal.the-variants.{None, Room}
+use Rattle.records.specs.Limits.{mostJobs}
+use Rattle.records.specs.Refusals.{refusalSays, Outcome, accepted, refused}
 use Rattle.table.specs.Tables.{JobTable, readTable}
 use Rattle.bytes.specs.Decimals.{decimal}
 use Rattle.lines.specs.Lines.{space, newline, pairLine}

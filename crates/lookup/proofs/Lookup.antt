@@ -16,9 +16,9 @@ use borrow.Author.Tests.{eqb-true, eqb-false, eq-eqb, ne-eqb}
 use Rattle.model.specs.declared.Job.{Job}
 use Rattle.model.specs.Positions.{noJob}
 use Rattle.model.proofs.Lists.{clash, member-all}
-use Rattle.table.specs.Limits.{mostJobs}
+use Rattle.records.specs.Limits.{mostJobs}
 use Rattle.table.specs.Tables.{jobId}
-use Rattle.table.proofs.Listed.{Distinct}
+use Rattle.records.proofs.Listed.{Distinct}
 use Rattle.lookup.specs.declared.Found.{Found}
 use Rattle.lookup.specs.declared.Found.the-variants.{At, Nowhere}
 use Rattle.lookup.specs.Lookup.{first, withKey, jobOf, positionOf, indexed, Indexes}

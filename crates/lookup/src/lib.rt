@@ -1,7 +1,7 @@
 // Where the job with an id stands in a table: one search, made once for a table, for all that look jobs up by their ids.
 use table::Table;
 ghost use Prim.Native.Nat.{_≤_};
-ghost use Rattle.table.specs.Limits.{mostJobs};
+ghost use Rattle.records.specs.Limits.{mostJobs};
 ghost use Rattle.table.specs.Tables.{jobTable};
 ghost use Rattle.lookup.specs.Lookup.{Indexes};
 

@@ -16,9 +16,9 @@ use Rattle.model.proofs.Best.{best-unique}
 use Rattle.model.proofs.GivenOrder.{given-none-iff, given-best, best-in-order-iff, best-in-order-unique}
 use Rattle.model.proofs.LeastDeadline.{turn-least, least-unique, met-mono}
 use Rattle.model.proofs.Free.{free-best, free-none-iff}
-use Rattle.table.specs.declared.refusal.Refusal.the-variants.{None}
-use Rattle.table.specs.Limits.{mostJobs, largestTime, longestPlan}
-use Rattle.table.specs.Refusals.{accepted}
+use Rattle.records.specs.declared.refusal.Refusal.the-variants.{None}
+use Rattle.records.specs.Limits.{mostJobs, largestTime, longestPlan}
+use Rattle.records.specs.Refusals.{accepted}
 use Rattle.table.specs.Tables.{JobTable, readTable}
 use Rattle.table.proofs.Accepted.{accepted-good}
 use Rattle.plan.specs.Plans.{planBytes, stepsFor}

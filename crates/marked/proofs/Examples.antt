@@ -8,9 +8,9 @@ use lib.ListN.{length, drop}
 use Rattle.model.specs.declared.Sending.the-variants.{HereOnly, Either}
 use Rattle.model.specs.declared.Job.{Job}
 use Rattle.model.specs.Timetable.{Chosen}
-use Rattle.table.specs.Limits.{longestPlan}
-use Rattle.table.specs.Refusals.{accepted}
-use Rattle.table.specs.Records.{formOf, judged, used, listFrom}
+use Rattle.records.specs.Limits.{longestPlan}
+use Rattle.records.specs.Refusals.{accepted}
+use Rattle.records.specs.Records.{formOf, judged, used, listFrom}
 use Rattle.table.specs.Tables.{JobTable, frameAt, jobAt, jobsRead, readTable}
 use Rattle.plan.specs.Plans.{planBytes}
 use Rattle.planner.specs.declared.Planned.{Planned}

@@ -10,8 +10,8 @@ use Rattle.model.specs.Lists.{All}
 use Rattle.model.specs.Timetable.{Chosen, Allowed}
 use Rattle.model.specs.Laying.{chosen}
 use Rattle.model.proofs.Lists.{clash}
-use Rattle.table.specs.declared.refusal.Refusal.the-variants.{None}
-use Rattle.table.proofs.Refusals.{says-not-zero}
+use Rattle.records.specs.declared.refusal.Refusal.the-variants.{None}
+use Rattle.records.proofs.Refusals.{says-not-zero}
 use Rattle.plan.specs.Plans.{planBytes}
 use Rattle.marked.specs.Marked.{E, marked, AllHold}
 use Rattle.accord.specs.Allows.{FreeAllows}

@@ -3,7 +3,7 @@
 use mathlib.Core.Path.{refl}
 use mathlib.Core.List.{[], _∷_, _++_}
 use native.Mathlib.Omega.{arith}
-use Rattle.table.specs.Records.{formOf, judged, used, listFrom}
+use Rattle.records.specs.Records.{formOf, judged, used, listFrom}
 use Rattle.table.specs.Tables.{frameAt, jobAt, jobsRead, readTable}
 use Rattle.lookup.specs.Lookup.{withKey}
 use Rattle.plan.specs.Plans.{planBytes, readPlan, recordAt}

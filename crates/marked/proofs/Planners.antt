@@ -8,11 +8,11 @@ use lib.ListN.{length, getD, drop, replicate}
 use Rattle.model.specs.Timetable.{Chosen, Timetable}
 use Rattle.model.specs.FreeOrder.{busy, lastFrom}
 use Rattle.model.specs.GivenOrder.{InOrder, BestInOrder}
-use Rattle.table.specs.declared.refusal.Refusal.the-variants.{None, Room}
-use Rattle.table.specs.Limits.{longestPlan}
-use Rattle.table.specs.Refusals.{accepted}
+use Rattle.records.specs.declared.refusal.Refusal.the-variants.{None, Room}
+use Rattle.records.specs.Limits.{longestPlan}
+use Rattle.records.specs.Refusals.{accepted}
 use Rattle.table.specs.Tables.{JobTable, readTable}
-use Rattle.table.proofs.Refusals.{says-not-zero}
+use Rattle.records.proofs.Refusals.{says-not-zero}
 use Rattle.plan.specs.Plans.{planBytes, stepsFor}
 use Rattle.planner.specs.declared.Least.{Least}
 use Rattle.planner.specs.Answers as A

@@ -8,8 +8,8 @@ use Prim.Native.Nat.{ℕ, zero, suc, _≤_, _%_, _/_}
 use lib.Ieee.{Float, fin}
 use lib.ListN.{length, drop}
 use Rattle.model.specs.Lists.{All}
-use Rattle.table.specs.declared.refusal.Refusal.the-variants.{None}
-use Rattle.table.specs.Limits.{longestPlan}
+use Rattle.records.specs.declared.refusal.Refusal.the-variants.{None}
+use Rattle.records.specs.Limits.{longestPlan}
 use Rattle.table.specs.Tables.{verdictSays}
 use Rattle.table.specs.declared.TableRead.{TableRead}
 use Rattle.planner.specs.declared.Planned.{Planned}

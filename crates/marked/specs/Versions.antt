@@ -8,9 +8,9 @@ use lib.ListN.{length, getD, drop}
 use Rattle.model.specs.Lists.{All, filter, total, greatest}
 use Rattle.model.specs.Timetable.{Chosen, here, setupTime, returnTime, span, finish}
 use Rattle.model.specs.FreeOrder.{Choice, isAway, awayOrder, laid, Fits, Workable}
-use Rattle.table.specs.declared.refusal.Refusal.the-variants.{None}
-use Rattle.table.specs.Limits.{longestPlan}
-use Rattle.table.specs.Refusals.{refusalSays, accepted}
+use Rattle.records.specs.declared.refusal.Refusal.the-variants.{None}
+use Rattle.records.specs.Limits.{longestPlan}
+use Rattle.records.specs.Refusals.{refusalSays, accepted}
 use Rattle.table.specs.Tables.{JobTable, readTable}
 use Rattle.plan.specs.Plans.{planBytes, stepsFor}
 use Rattle.planner.specs.declared.Planned.{Planned}

@@ -4,10 +4,10 @@ use mathlib.Core.Path.{_≡_}
 use native.Mathlib.Omega.{arith}
 use borrow.Author.Tests.{ne-eqb}
 use lib.ListN.{getD}
-use Rattle.table.specs.declared.refusal.Said.{Said}
-use Rattle.table.specs.declared.refusal.Refusal.{Refusal}
-use Rattle.table.specs.Refusals.{refusalSays, saidBy}
-use Rattle.table.proofs.Refusals.{says-numbered}
+use Rattle.records.specs.declared.refusal.Said.{Said}
+use Rattle.records.specs.declared.refusal.Refusal.{Refusal}
+use Rattle.records.specs.Refusals.{refusalSays, saidBy}
+use Rattle.records.proofs.Refusals.{says-numbered}
 use Rattle.planner.specs.declared.Planned.{Planned}
 use Rattle.planner.specs.declared.Planned.the-variants.{NotPlanned}
 use Rattle.planner.specs.declared.Least.{Least}

@@ -3,7 +3,7 @@
 use judge::Checked;
 use planner::Least;
 use planner::Planned;
-use table::refusal;
+use records::refusal;
 ghost use mathlib.Core.Path.{_≡_};
 ghost use Rattle.planner.specs.declared.Planned.{Planned};
 ghost use Rattle.planner.specs.declared.Least.{Least};

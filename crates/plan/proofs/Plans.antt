@@ -9,18 +9,18 @@ use lib.Dec.{eqb}
 use native.Mathlib.Omega.{arith}
 use borrow.Author.Tests.{lt-ltb}
 use Rattle.model.proofs.Lists.{all-all}
-use Rattle.table.specs.declared.refusal.Place.{Place}
-use Rattle.table.specs.declared.kind.StepKind.{StepKind}
-use Rattle.table.specs.declared.kind.StepKind.the-variants.{HereStep, AwayStep, EndStep}
-use Rattle.table.specs.declared.kind.Meaning.the-variants.{Step as StepOf}
-use Rattle.table.specs.Limits.{mostJobs, longestPlan}
-use Rattle.table.specs.Refusals.{start, past, accepted}
-use Rattle.table.specs.Kinds.{runHere, sendAway, planEnd}
-use Rattle.table.specs.Records.{form, formOf, stepOnly, one, last}
-use Rattle.table.proofs.Records.{stepByte, stepLength, opened}
+use Rattle.records.specs.declared.refusal.Place.{Place}
+use Rattle.records.specs.declared.kind.StepKind.{StepKind}
+use Rattle.records.specs.declared.kind.StepKind.the-variants.{HereStep, AwayStep, EndStep}
+use Rattle.records.specs.declared.kind.Meaning.the-variants.{Step as StepOf}
+use Rattle.records.specs.Limits.{mostJobs, longestPlan}
+use Rattle.records.specs.Refusals.{start, past, accepted}
+use Rattle.records.specs.Kinds.{runHere, sendAway, planEnd}
+use Rattle.records.specs.Records.{form, formOf, stepOnly, one, last}
+use Rattle.records.proofs.Records.{stepByte, stepLength, opened}
 use Rattle.bytes.proofs.Numbers.{byte-from}
 use Rattle.table.proofs.ReadBack.{kind-byte, long}
-use Rattle.table.proofs.Listed.{Distinct, listed-good, listed-bytes, listed-back}
+use Rattle.records.proofs.Listed.{Distinct, listed-good, listed-bytes, listed-back}
 use Rattle.plan.specs.declared.Step.{Step}
 use Rattle.plan.specs.declared.RecordRead.the-variants.{RecordRefused}
 use Rattle.plan.specs.Plans.{stepBody, recordAt, stepParsed, stepId, readPlan, stepBytes, planBytes, noStep, stepAt}

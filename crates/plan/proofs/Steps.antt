@@ -13,18 +13,18 @@ use native.Mathlib.Omega.{arith}
 use borrow.Author.Tests.{ltb-true}
 use Rattle.model.specs.Timetable.{Chosen}
 use Rattle.model.proofs.Lists.{clash}
-use Rattle.table.specs.declared.refusal.Place.{Place}
-use Rattle.table.specs.declared.refusal.Refusal.{Refusal}
-use Rattle.table.specs.declared.refusal.Refusal.the-variants.{After}
-use Rattle.table.specs.declared.kind.StepKind.{StepKind}
-use Rattle.table.specs.declared.kind.StepKind.the-variants.{HereStep, AwayStep, EndStep}
-use Rattle.table.specs.Limits.{mostJobs}
-use Rattle.table.specs.Refusals.{past, accepted, refused}
-use Rattle.table.specs.Kinds.{runHere, sendAway, planEnd}
-use Rattle.table.specs.Records.{stepOnly, Parsed, one, last}
+use Rattle.records.specs.declared.refusal.Place.{Place}
+use Rattle.records.specs.declared.refusal.Refusal.{Refusal}
+use Rattle.records.specs.declared.refusal.Refusal.the-variants.{After}
+use Rattle.records.specs.declared.kind.StepKind.{StepKind}
+use Rattle.records.specs.declared.kind.StepKind.the-variants.{HereStep, AwayStep, EndStep}
+use Rattle.records.specs.Limits.{mostJobs}
+use Rattle.records.specs.Refusals.{past, accepted, refused}
+use Rattle.records.specs.Kinds.{runHere, sendAway, planEnd}
+use Rattle.records.specs.Records.{stepOnly, Parsed, one, last}
 use Rattle.model.proofs.Tests.{cond-all}
-use Rattle.table.proofs.Records.{stepByte, stepLength, step-kind, is-step, judged-all}
-use Rattle.table.proofs.Listed.{padded-more}
+use Rattle.records.proofs.Records.{stepByte, stepLength, step-kind, is-step, judged-all}
+use Rattle.records.proofs.Listed.{padded-more}
 use Rattle.plan.specs.declared.Step.{Step}
 use Rattle.plan.specs.declared.Record.the-variants.{Listed, Last}
 use Rattle.plan.specs.declared.RecordRead.{RecordRead}

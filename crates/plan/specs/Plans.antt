@@ -6,15 +6,15 @@ use mathlib.Core.List.{List, [], _∷_, _++_, map}
 use lib.ListN.{length, getD, take, set, replicate}
 use lib.Dec.{ltb, leb, eqb}
 use Rattle.model.specs.Timetable.{Chosen}
-use Rattle.table.specs.declared.refusal.Place.{Place}
-use Rattle.table.specs.declared.refusal.Refusal.{Refusal}
-use Rattle.table.specs.declared.refusal.Refusal.the-variants.{Many, After, None}
-use Rattle.table.specs.declared.kind.StepKind.{StepKind}
-use Rattle.table.specs.declared.kind.StepKind.the-variants.{HereStep, AwayStep, EndStep}
-use Rattle.table.specs.Limits.{mostJobs}
-use Rattle.table.specs.Refusals.{start, refusalSays, Outcome, accepted, refused}
-use Rattle.table.specs.Kinds.{runHere, sendAway, planEnd}
-use Rattle.table.specs.Records.{stepOnly, judged, Parsed, one, last, bad, listFrom}
+use Rattle.records.specs.declared.refusal.Place.{Place}
+use Rattle.records.specs.declared.refusal.Refusal.{Refusal}
+use Rattle.records.specs.declared.refusal.Refusal.the-variants.{Many, After, None}
+use Rattle.records.specs.declared.kind.StepKind.{StepKind}
+use Rattle.records.specs.declared.kind.StepKind.the-variants.{HereStep, AwayStep, EndStep}
+use Rattle.records.specs.Limits.{mostJobs}
+use Rattle.records.specs.Refusals.{start, refusalSays, Outcome, accepted, refused}
+use Rattle.records.specs.Kinds.{runHere, sendAway, planEnd}
+use Rattle.records.specs.Records.{stepOnly, judged, Parsed, one, last, bad, listFrom}
 use Rattle.plan.specs.declared.Step.{Step}
 use Rattle.plan.specs.declared.Record.the-variants.{Listed, Last}
 use Rattle.plan.specs.declared.RecordRead.{RecordRead}

@@ -1,18 +1,18 @@
 // A plan: its reader, which takes any bytes and reads them where they stand, and its writer at the front of a lent area.
+use records::kind;
+use records::kind::Meaning;
+use records::kind::PLAN_END;
+use records::kind::RUN_HERE;
+use records::kind::SEND_AWAY;
+use records::kind::StepKind;
+use records::refusal::Place;
+use records::refusal::Refusal;
 use table::Table;
-use table::kind;
-use table::kind::Meaning;
-use table::kind::PLAN_END;
-use table::kind::RUN_HERE;
-use table::kind::SEND_AWAY;
-use table::kind::StepKind;
-use table::refusal::Place;
-use table::refusal::Refusal;
 ghost use mathlib.Core.Path.{_≡_};
 ghost use mathlib.Core.List.{[], _++_};
 ghost use Prim.Native.Nat.{_+_, _<_, _≤_};
 ghost use lib.ListN.{length, drop};
-ghost use Rattle.table.specs.Limits.{mostJobs, longestPlan};
+ghost use Rattle.records.specs.Limits.{mostJobs, longestPlan};
 ghost use Rattle.bytes.specs.Writing.{Wrote};
 ghost use Rattle.plan.specs.Plans.{listedAt, recordAt, refusalOf, endedAt, readPlan, planRead, stepBytes, planBytes, stepAt, planOf, withStep, stepsOf};
 

@@ -6,9 +6,9 @@ use Prim.Native.Nat.{ℕ}
 use Rattle.model.specs.declared.Job.{Job}
 use Rattle.table.specs.declared.TableVerdict.the-variants.{Whole, Refused}
 use Rattle.table.specs.declared.TableRead.{TableRead}
-use Rattle.table.specs.declared.refusal.Refusal.{Refusal}
-use Rattle.table.specs.declared.refusal.Refusal.the-variants.{None}
-use Rattle.table.specs.Limits.{largestTime}
+use Rattle.records.specs.declared.refusal.Refusal.{Refusal}
+use Rattle.records.specs.declared.refusal.Refusal.the-variants.{None}
+use Rattle.records.specs.Limits.{largestTime}
 use Rattle.table.specs.Tables.{jobTable}
 use Rattle.choice.specs.declared.Prepared.{Prepared}
 use Rattle.choice.specs.declared.EarliestMet.{EarliestMet}

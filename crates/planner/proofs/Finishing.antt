@@ -13,10 +13,10 @@ use Rattle.table.specs.declared.Table.{Table}
 use Rattle.table.specs.declared.TableVerdict.{TableVerdict}
 use Rattle.table.specs.declared.TableVerdict.the-variants.{Whole, Refused}
 use Rattle.table.specs.declared.TableRead.{TableRead}
-use Rattle.table.specs.declared.refusal.Refusal.{Refusal}
-use Rattle.table.specs.declared.refusal.Refusal.the-variants.{None}
-use Rattle.table.specs.Limits.{mostJobs, longestPlan}
-use Rattle.table.specs.Refusals.{accepted, refused}
+use Rattle.records.specs.declared.refusal.Refusal.{Refusal}
+use Rattle.records.specs.declared.refusal.Refusal.the-variants.{None}
+use Rattle.records.specs.Limits.{mostJobs, longestPlan}
+use Rattle.records.specs.Refusals.{accepted, refused}
 use Rattle.table.specs.Tables.{JobTable, jobTable, Sound, readTable, tableRead}
 use Rattle.table.proofs.Reading.{read-refused, read-whole}
 use Rattle.plan.specs.Plans.{planBytes, stepsOf, stepsFor}

@@ -15,7 +15,7 @@ use Rattle.model.proofs.GivenOrder.{given-best, given-none-iff}
 use Rattle.table.specs.declared.Table.{Table}
 use Rattle.table.specs.declared.TableVerdict.the-variants.{Whole}
 use Rattle.table.specs.declared.TableRead.{TableRead}
-use Rattle.table.specs.Limits.{mostJobs, longestPlan}
+use Rattle.records.specs.Limits.{mostJobs, longestPlan}
 use Rattle.table.specs.Tables.{JobTable, jobTable, Sound}
 use Rattle.draft.specs.declared.Drafted.{Drafted}
 use Rattle.draft.specs.Drafts.{draftedOf}

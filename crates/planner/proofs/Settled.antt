@@ -12,12 +12,12 @@ use Rattle.model.proofs.Timetables.{timetable-iff-workable}
 use Rattle.model.proofs.Best.{best-unique}
 use Rattle.model.proofs.GivenOrder.{best-in-order-iff, best-in-order-unique}
 use Rattle.model.proofs.LeastDeadline.{least-unique, met-mono}
-use Rattle.table.specs.declared.refusal.Refusal.{Refusal}
-use Rattle.table.specs.declared.refusal.Refusal.the-variants.{None, Room}
-use Rattle.table.specs.Limits.{largestTime}
-use Rattle.table.specs.Refusals.{refusalSays, Outcome, accepted}
+use Rattle.records.specs.declared.refusal.Refusal.{Refusal}
+use Rattle.records.specs.declared.refusal.Refusal.the-variants.{None, Room}
+use Rattle.records.specs.Limits.{largestTime}
+use Rattle.records.specs.Refusals.{refusalSays, Outcome, accepted}
 use Rattle.table.specs.Tables.{JobTable}
-use Rattle.table.proofs.Refusals.{says-injective, says-not-zero}
+use Rattle.records.proofs.Refusals.{says-injective, says-not-zero}
 use Rattle.planner.specs.declared.Planned.{Planned}
 use Rattle.planner.specs.declared.Planned.the-variants.{PlanWritten, NotPlanned}
 use Rattle.planner.specs.declared.Least.{Least}

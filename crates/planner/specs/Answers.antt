@@ -9,12 +9,12 @@ use Rattle.model.specs.declared.Job.{Job}
 use Rattle.model.specs.Timetable.{Chosen, Placed, chosenIn, Timetable, Meets, Met}
 use Rattle.model.specs.FreeOrder.{plan, lastFrom, Best, LeastDeadline}
 use Rattle.model.specs.GivenOrder.{InOrder, BestInOrder}
-use Rattle.table.specs.declared.refusal.Refusal.{Refusal}
-use Rattle.table.specs.declared.refusal.Refusal.the-variants.{None, Room}
+use Rattle.records.specs.declared.refusal.Refusal.{Refusal}
+use Rattle.records.specs.declared.refusal.Refusal.the-variants.{None, Room}
 use Rattle.table.specs.declared.TableVerdict.the-variants.{Whole, Refused}
 use Rattle.table.specs.declared.TableRead.{TableRead}
-use Rattle.table.specs.Limits.{largestTime, longestPlan}
-use Rattle.table.specs.Refusals.{refusalSays, Outcome, accepted, refused}
+use Rattle.records.specs.Limits.{largestTime, longestPlan}
+use Rattle.records.specs.Refusals.{refusalSays, Outcome, accepted, refused}
 use Rattle.table.specs.Tables.{JobTable, runDeadline, runBusy, jobTable, Sound, readTable}
 use Rattle.plan.specs.Plans.{planBytes, stepsFor}
 use Rattle.planner.specs.declared.Planned.{Planned}

@@ -2,17 +2,17 @@
 // Any table and any area get an answer by number; a plan is written at the front of the area, and a refusal leaves all of it.
 use choice::EarliestMet;
 use draft::Drafted;
+use records::refusal::Refusal;
 use table::Table;
 use table::TableRead;
 use table::TableVerdict;
-use table::refusal::Refusal;
 ghost use mathlib.Core.Path.{_≡_};
 ghost use mathlib.Core.List.{List};
 ghost use mathlib.Core.Option.{Option};
 ghost use Prim.Native.Nat.{_≤_};
 ghost use lib.ListN.{length};
 ghost use Rattle.model.specs.Timetable.{Chosen};
-ghost use Rattle.table.specs.Limits.{longestPlan, mostJobs};
+ghost use Rattle.records.specs.Limits.{longestPlan, mostJobs};
 ghost use Rattle.table.specs.Tables.{JobTable};
 ghost use Rattle.draft.specs.Drafts.{draftedOf};
 ghost use Rattle.planner.specs.Answers.{wasRead, SoundRead, FreeRead, GivenRead, LeastRead, Finishes};

@@ -7,7 +7,7 @@ use mathlib.Core.List.{List, [], _∷_, _++_}
 use lib.ListN.{length, take, drop}
 use lib.Dec.{eqb}
 use lib.Ieee.{toBits, binary32}
-use Rattle.table.specs.Refusals.{refusalSays}
+use Rattle.records.specs.Refusals.{refusalSays}
 use Rattle.bytes.specs.Writing.{Wrote}
 use Rattle.bytes.specs.Decimals.{decimal}
 use Rattle.bytes.specs.Hex.{hexOf}

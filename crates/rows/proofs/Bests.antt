@@ -13,7 +13,7 @@ use Rattle.model.proofs.Held.{shift-held, pick-first, pick-second}
 use Rattle.rows.specs.declared.Lowest.{Lowest}
 use Rattle.rows.specs.Rows.{nothing}
 use Rattle.rows.specs.Columns.{Rows, Better, Single}
-use Rattle.table.specs.Limits.{largestTime, mostJobs}
+use Rattle.records.specs.Limits.{largestTime, mostJobs}
 
 -- a choice holds a cell
 abbrev pub HeldBy : Cell → Lowest → Type 0

@@ -13,7 +13,7 @@ use Rattle.model.specs.Lists.{All}
 use Rattle.rows.specs.Rows.{WithinRows}
 use Rattle.rows.specs.Columns.{Fit, Stepped, Rows}
 use Rattle.rows.proofs.Rows.{rows-fit, rows-next}
-use Rattle.table.specs.Limits.{largestTime, mostJobs}
+use Rattle.records.specs.Limits.{largestTime, mostJobs}
 
 pub taken-length : (jobs : List Job) (k : ℕ) → k ≤ length jobs → length (reverse (take k jobs)) ≡ k
 taken-length jobs k h = length-reverse (take k jobs) ∙ length-take-le k jobs h

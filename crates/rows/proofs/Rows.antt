@@ -17,7 +17,7 @@ use Rattle.model.proofs.Bounds.{row-bounds}
 use Rattle.model.proofs.Held.{next-sent, next-kept}
 use Rattle.rows.specs.Rows.{nothing, columns}
 use Rattle.rows.specs.Columns.{Fit, Raised, lower, Stepped, Column, Rows}
-use Rattle.table.specs.Limits.{largestTime, mostJobs}
+use Rattle.records.specs.Limits.{largestTime, mostJobs}
 
 -- the same column by other names of its numbers
 column-at : {D : ℕ} {os : List Job} {t x y x' y' : ℕ} → x' ≡ x → y' ≡ y → Column D os t x y → Column D os t x' y'

@@ -13,7 +13,7 @@ use Rattle.model.specs.Timetable.{setupTime, returnTime}
 use Rattle.model.specs.Recurrence.{Holds, row}
 use Rattle.rows.specs.declared.Lowest.{Lowest}
 use Rattle.rows.specs.Rows.{nothing, columns}
-use Rattle.table.specs.Limits.{largestTime}
+use Rattle.records.specs.Limits.{largestTime}
 
 -- each number before column n has room for `more`
 abbrev pub Fit : ℕ → ℕ → List ℕ → Type 0

@@ -4,7 +4,7 @@ use Prim.Native.Nat.{ℕ, _*_, _≤_}
 use mathlib.Core.List.{List}
 use lib.ListN.{take}
 use Rattle.model.specs.declared.Job.{Job}
-use Rattle.table.specs.Limits.{mostJobs, largestTime}
+use Rattle.records.specs.Limits.{mostJobs, largestTime}
 use Rattle.model.specs.Lists.{All}
 
 -- "The planner's own work rows have 4,001 entries, one for each tick from 0 to 4,000."

@@ -9,7 +9,7 @@ ghost use Prim.Native.Nat.{suc, _+_, _*_, _≤_, _<_};
 ghost use lib.ListN.{length, take};
 ghost use Rattle.model.specs.Recurrence.{Holds, bestBelow};
 ghost use Rattle.model.specs.Timetable.{setupTime, returnTime};
-ghost use Rattle.table.specs.Limits.{mostJobs, largestTime};
+ghost use Rattle.records.specs.Limits.{mostJobs, largestTime};
 ghost use Rattle.rows.specs.Rows.{columns, nothing, WithinRows};
 ghost use Rattle.rows.specs.Columns.{Fit, Raised, Sent, RoomFor, Stepped, Rows, lower, Better, Single};
 

@@ -7,8 +7,9 @@ use Prim.Native.Nat.{suc}
 use lib.ListN.{take}
 use Rattle.model.specs.Recurrence.{bestBelow}
 use Rattle.model.proofs as model
+use Rattle.records.proofs as records
 use Rattle.table.proofs as table
-use Rattle.table.specs.Limits.{largestTime}
+use Rattle.records.specs.Limits.{largestTime}
 use Rattle.bytes.proofs as bytes
 use Rattle.lookup.proofs as lookup
 use Rattle.lines.proofs as lines
@@ -62,16 +63,16 @@ longest-table κs i r s m n p q = (p ∙ sym q, refl)
 pub longest-plan : Settles table.Table.longest_plan.ended table.Table.longest_plan.Reads.Learnt
 longest-plan κs i r s m n p q = (p ∙ sym q, refl)
 
-pub form-of : Settles table.kind.form_of.ended table.kind.form_of.Reads.Learnt
+pub form-of : Settles records.kind.form_of.ended records.kind.form_of.Reads.Learnt
 form-of κs i r s m n p q = (p ∙ sym q, refl)
 
-pub place-start : Settles table.refusal.Place.start.ended table.refusal.Place.start.Reads.Learnt
+pub place-start : Settles records.refusal.Place.start.ended records.refusal.Place.start.Reads.Learnt
 place-start κs i r s m n p q = (p ∙ sym q, refl)
 
-pub place-past : Settles table.refusal.Place.past.ended table.refusal.Place.past.Reads.Learnt
+pub place-past : Settles records.refusal.Place.past.ended records.refusal.Place.past.Reads.Learnt
 place-past κs i r s m n p q = (p ∙ sym q, refl)
 
-pub numbers-of : Settles table.refusal.numbers_of.ended table.refusal.numbers_of.Reads.Learnt
+pub numbers-of : Settles records.refusal.numbers_of.ended records.refusal.numbers_of.Reads.Learnt
 numbers-of κs i r s m n p q = (p ∙ sym q, refl)
 
 pub read-table : Settles table.read_table.ended table.read_table.Reads.Learnt

@@ -6,9 +6,9 @@ use Prim.Native.Nat.{ℕ}
 use native.Mathlib.Omega.{arith}
 use Rattle.model.specs.Timetable.{Chosen}
 use Rattle.model.proofs.Lists.{clash}
-use Rattle.table.specs.declared.refusal.Refusal.{Refusal}
-use Rattle.table.specs.Records.{formOf, judged, used, listFrom}
-use Rattle.table.specs.Refusals.{refusalSays, refused}
+use Rattle.records.specs.declared.refusal.Refusal.{Refusal}
+use Rattle.records.specs.Records.{formOf, judged, used, listFrom}
+use Rattle.records.specs.Refusals.{refusalSays, refused}
 use Rattle.table.specs.Tables.{JobTable, frameAt, jobAt, jobsRead, readTable}
 use Rattle.planner.specs.declared.Planned.{Planned}
 use Rattle.planner.specs.declared.Least.{Least}

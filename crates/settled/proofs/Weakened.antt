@@ -7,9 +7,9 @@ use Prim.Native.Nat.{ℕ}
 use native.Mathlib.Omega.{arith}
 use denote.Triple.Clauses.{Lasts, atExit}
 use Rattle.model.proofs.Lists.{clash}
-use Rattle.table.specs.Records.{judged}
+use Rattle.records.specs.Records.{judged}
 use Rattle.table.specs.Tables.{readTable, frameAt}
-use Rattle.table.specs.declared.refusal.Refusal.the-variants.{Late, Phase}
+use Rattle.records.specs.declared.refusal.Refusal.the-variants.{Late, Phase}
 use Rattle.judge.specs.declared.Checked.the-variants.{Fails}
 use Rattle.judge.specs.Check.{checkPlan}
 use Rattle.judge.proofs as judge

@@ -14,16 +14,17 @@ use Rattle.model.specs.Laying.{chosen}
 use Rattle.model.proofs.Lists.{clash}
 use Rattle.model.proofs as model
 use Rattle.table.specs.declared.Table.{Table}
-use Rattle.table.specs.declared.kind.Form.{Form}
-use Rattle.table.specs.declared.kind.Meaning.the-variants.{Row, Unknown}
-use Rattle.table.specs.declared.kind.RowKind.the-variants.{HereRow}
-use Rattle.table.specs.declared.refusal.Place.{Place}
-use Rattle.table.specs.declared.refusal.Refusal.the-variants.{Twice, Late, Phase}
-use Rattle.table.specs.declared.refusal.Said.{Said}
-use Rattle.table.specs.Limits.{mostJobs}
-use Rattle.table.specs.Records.{form, formOf}
-use Rattle.table.specs.Refusals.{start, past}
+use Rattle.records.specs.declared.kind.Form.{Form}
+use Rattle.records.specs.declared.kind.Meaning.the-variants.{Row, Unknown}
+use Rattle.records.specs.declared.kind.RowKind.the-variants.{HereRow}
+use Rattle.records.specs.declared.refusal.Place.{Place}
+use Rattle.records.specs.declared.refusal.Refusal.the-variants.{Twice, Late, Phase}
+use Rattle.records.specs.declared.refusal.Said.{Said}
+use Rattle.records.specs.Limits.{mostJobs}
+use Rattle.records.specs.Records.{form, formOf}
+use Rattle.records.specs.Refusals.{start, past}
 use Rattle.table.specs.Tables.{emptyTable}
+use Rattle.records.proofs as records
 use Rattle.table.proofs as table
 use Rattle.bytes.specs.Decimals.{digitsIn, decimal}
 use Rattle.bytes.specs.Numbers.{fourAt}
@@ -110,7 +111,7 @@ table-empty = (
 
 -- a here-only record's body one byte short; its kind unknown
 abbrev FormNot : Form → Type 0
-FormNot f = RulesOut table.kind.form_of.ended table.kind.form_of.Reads.Learnt tt (0x11, tt) f
+FormNot f = RulesOut records.kind.form_of.ended records.kind.form_of.Reads.Learnt tt (0x11, tt) f
 
 pub form-of : FormNot (form (Row HereRow) 2) × FormNot (form Unknown 3)
 unfolding formOf
@@ -121,7 +122,7 @@ form-of = (
 
 -- the second byte of a file, the fourth; the next record one byte short, or where this one is
 abbrev StartNot : Place → Type 0
-StartNot p = RulesOut table.refusal.Place.start.ended table.refusal.Place.start.Reads.Learnt tt tt p
+StartNot p = RulesOut records.refusal.Place.start.ended records.refusal.Place.start.Reads.Learnt tt tt p
 
 pub place-start : StartNot (past start 0) × StartNot (past start 2)
 place-start = (
@@ -130,7 +131,7 @@ place-start = (
 )
 
 abbrev PastNot : Place → Type 0
-PastNot p = RulesOut table.refusal.Place.past.ended table.refusal.Place.past.Reads.Learnt tt (start, (2, tt)) p
+PastNot p = RulesOut records.refusal.Place.past.ended records.refusal.Place.past.Reads.Learnt tt (start, (2, tt)) p
 
 pub place-past : PastNot (past start 1) × PastNot start
 place-past = (
@@ -143,8 +144,8 @@ abbrev said : ℕ → Said
 said n = record { number = n; placed = false; place = 0 }
 
 pub numbers-of :
-    RulesOut table.refusal.numbers_of.ended table.refusal.numbers_of.Reads.Learnt tt (Late, tt) (said 12)
-    × RulesOut table.refusal.numbers_of.ended table.refusal.numbers_of.Reads.Learnt tt (Twice (past start 6), tt) (said 5)
+    RulesOut records.refusal.numbers_of.ended records.refusal.numbers_of.Reads.Learnt tt (Late, tt) (said 12)
+    × RulesOut records.refusal.numbers_of.ended records.refusal.numbers_of.Reads.Learnt tt (Twice (past start 6), tt) (said 5)
 numbers-of = (
   (λ m e. let z : _≡_ {A = ℕ} 12 11 = ap (λ (s : Said). s .number) e in omega arith),
   (λ m e. let z : _≡_ {A = ℕ} 0 7 = ap (λ (s : Said). s .place) e in omega arith),

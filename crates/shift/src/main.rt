@@ -6,7 +6,7 @@ use frame_record::Event;
 use frame_record::Frame;
 use frame_record::Reading;
 use frame_record::Sample;
-use table::refusal::Refusal;
+use records::refusal::Refusal;
 
 const FRAMES: u32 = 100000;
 

@@ -10,13 +10,13 @@ use Rattle.model.specs.declared.Job.{Job}
 use Rattle.model.specs.Lists.{All}
 use Rattle.model.specs.Positions.{noJob}
 use Rattle.model.proofs.Lists.{clash, all-append}
-use Rattle.table.specs.declared.refusal.Place.{Place}
+use Rattle.records.specs.declared.refusal.Place.{Place}
 use Rattle.table.specs.declared.FrameRead.{FrameRead}
-use Rattle.table.specs.Limits.{mostJobs, largestTime}
-use Rattle.table.specs.Refusals.{start, past, Outcome, accepted, refused}
-use Rattle.table.specs.Records.{one}
+use Rattle.records.specs.Limits.{mostJobs, largestTime}
+use Rattle.records.specs.Refusals.{start, past, Outcome, accepted, refused}
+use Rattle.records.specs.Records.{one}
 use Rattle.table.specs.Tables.{JobTable, TimesOk, GoodTable, jobId, jobsRead, withDeadline, afterFrame, readTable, Sound, jobTable, tableOf}
-use Rattle.table.proofs.Listed.{listed-all, listed-good}
+use Rattle.records.proofs.Listed.{listed-all, listed-good}
 use Rattle.table.proofs.Tables.{frame-all, rowParsed, RowIs, row-here, row-either, row-is, row-few}
 
 -- what an accepted byte string tells of its table: the deadline is in range, and the jobs behind the frame record are accepted

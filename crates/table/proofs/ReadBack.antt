@@ -12,19 +12,19 @@ use Rattle.model.specs.declared.Sending.{Sending}
 use Rattle.model.specs.declared.Sending.the-variants.{HereOnly, Either}
 use Rattle.model.specs.declared.Job.{Job}
 use Rattle.bytes.proofs.Numbers.{byte-from, two-from, two-whole}
-use Rattle.table.specs.declared.refusal.Place.{Place}
-use Rattle.table.specs.declared.kind.RowKind.{RowKind}
-use Rattle.table.specs.declared.kind.RowKind.the-variants.{HereRow, EitherRow, EndRow}
+use Rattle.records.specs.declared.refusal.Place.{Place}
+use Rattle.records.specs.declared.kind.RowKind.{RowKind}
+use Rattle.records.specs.declared.kind.RowKind.the-variants.{HereRow, EitherRow, EndRow}
 use Rattle.table.specs.declared.FrameRead.the-variants.{FrameIs, FrameRefused}
 use Rattle.table.specs.declared.JobRead.the-variants.{JobRefused}
-use Rattle.table.specs.Limits.{mostJobs, largestTime}
-use Rattle.table.specs.Refusals.{start, past, accepted}
-use Rattle.table.specs.Kinds.{tableEnd}
-use Rattle.table.specs.Records.{formOf, frameOnly, rowOnly, one, last}
+use Rattle.records.specs.Limits.{mostJobs, largestTime}
+use Rattle.records.specs.Refusals.{start, past, accepted}
+use Rattle.records.specs.Kinds.{tableEnd}
+use Rattle.records.specs.Records.{formOf, frameOnly, rowOnly, one, last}
 use Rattle.table.specs.Tables.{JobTable, TimesOk, GoodTable, deadlineAt, frameAt, rowBody, jobAt, jobParsed, jobId, jobsRead, readTable, sendingBytes}
 use Rattle.table.specs.Tables.{jobBytes, tableBytes}
-use Rattle.table.proofs.Records.{rowByte, rowLength, frame-form, row-form, opened}
-use Rattle.table.proofs.Listed.{over, listed-back}
+use Rattle.records.proofs.Records.{rowByte, rowLength, frame-form, row-form, opened}
+use Rattle.records.proofs.Listed.{over, listed-back}
 use Rattle.table.proofs.Tables.{rowParsed}
 use Rattle.table.proofs.Written.{jobs-flat}
 

@@ -13,11 +13,11 @@ use Rattle.model.specs.Positions.{noJob}
 use Rattle.model.proofs.Lists.{clash}
 use Rattle.bytes.specs.Numbers.{twoAt}
 use Rattle.model.proofs.Tests.{cond-all, both}
-use Rattle.table.specs.declared.refusal.Place.{Place}
-use Rattle.table.specs.declared.refusal.Refusal.{Refusal}
-use Rattle.table.specs.declared.refusal.Refusal.the-variants.{After}
-use Rattle.table.specs.declared.kind.RowKind.{RowKind}
-use Rattle.table.specs.declared.kind.RowKind.the-variants.{HereRow, EitherRow, EndRow}
+use Rattle.records.specs.declared.refusal.Place.{Place}
+use Rattle.records.specs.declared.refusal.Refusal.{Refusal}
+use Rattle.records.specs.declared.refusal.Refusal.the-variants.{After}
+use Rattle.records.specs.declared.kind.RowKind.{RowKind}
+use Rattle.records.specs.declared.kind.RowKind.the-variants.{HereRow, EitherRow, EndRow}
 use Rattle.table.specs.declared.Table.{Table}
 use Rattle.table.specs.declared.FrameRead.{FrameRead}
 use Rattle.table.specs.declared.FrameRead.the-variants.{FrameIs, FrameRefused}
@@ -26,14 +26,14 @@ use Rattle.table.specs.declared.JobRead.the-variants.{JobRefused}
 use Rattle.table.specs.declared.TableRead.{TableRead}
 use Rattle.table.specs.declared.TableVerdict.{TableVerdict}
 use Rattle.table.specs.declared.TableVerdict.the-variants.{Whole, Refused}
-use Rattle.table.specs.Limits.{mostJobs, largestTime}
-use Rattle.table.specs.Refusals.{past, Outcome, accepted, refused}
-use Rattle.table.specs.Kinds.{frameKind, hereKind, eitherKind, tableEnd}
-use Rattle.table.specs.Records.{frameOnly, rowOnly, Parsed, one, last, bad}
+use Rattle.records.specs.Limits.{mostJobs, largestTime}
+use Rattle.records.specs.Refusals.{past, Outcome, accepted, refused}
+use Rattle.records.specs.Kinds.{frameKind, hereKind, eitherKind, tableEnd}
+use Rattle.records.specs.Records.{frameOnly, rowOnly, Parsed, one, last, bad}
 use Rattle.table.specs.Tables.{timeOk, deadlineAt, frameAt, hereAt, eitherAt, rowBody, jobAt, jobParsed, withDeadline, tableOf, tableRead, emptyTable}
 use Rattle.table.specs.Tables.{JobTable, endVerdict, isWhole}
-use Rattle.table.proofs.Records.{rowByte, rowLength, frame-kind, row-kind, is-frame, is-row, judged-all}
-use Rattle.table.proofs.Listed.{padded-more}
+use Rattle.records.proofs.Records.{rowByte, rowLength, frame-kind, row-kind, is-frame, is-row, judged-all}
+use Rattle.records.proofs.Listed.{padded-more}
 
 -- what holds of every refusal and of a whole frame record holds of the first record
 pub frame-all :

@@ -5,10 +5,10 @@ use native.Mathlib.Omega.{arith}
 use mathlib.Core.Path.{_≡_, refl, ap, sym, _∙_}
 use mathlib.Core.List.{List, [], _∷_, _++_, flatMap, append-assoc}
 use Rattle.model.specs.declared.Job.{Job}
-use Rattle.table.specs.declared.refusal.Place.{Place}
-use Rattle.table.specs.Refusals.{past}
-use Rattle.table.specs.Kinds.{tableEnd}
-use Rattle.table.specs.Records.{one, last}
+use Rattle.records.specs.declared.refusal.Place.{Place}
+use Rattle.records.specs.Refusals.{past}
+use Rattle.records.specs.Kinds.{tableEnd}
+use Rattle.records.specs.Records.{one, last}
 use Rattle.table.specs.Tables.{jobBytes, jobsBytes}
 use Rattle.table.proofs.Tables.{RowIs, row-here, row-either, row-end}
 

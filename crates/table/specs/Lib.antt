@@ -1,5 +1,1 @@
-pub mod Limits
-pub mod Refusals
-pub mod Kinds
-pub mod Records
 pub mod Tables

@@ -14,10 +14,10 @@ use Rattle.model.specs.Lists.{All, Pairwise}
 use Rattle.model.specs.Timetable.{setupTime, returnTime, Chosen}
 use Rattle.model.specs.FreeOrder.{busy}
 use Rattle.bytes.specs.Numbers.{twoAt, twoBytes}
-use Rattle.table.specs.declared.refusal.Place.{Place}
-use Rattle.table.specs.declared.refusal.Refusal.the-variants.{Range, Many, After}
-use Rattle.table.specs.declared.kind.RowKind.{RowKind}
-use Rattle.table.specs.declared.kind.RowKind.the-variants.{HereRow, EitherRow, EndRow}
+use Rattle.records.specs.declared.refusal.Place.{Place}
+use Rattle.records.specs.declared.refusal.Refusal.the-variants.{Range, Many, After}
+use Rattle.records.specs.declared.kind.RowKind.{RowKind}
+use Rattle.records.specs.declared.kind.RowKind.the-variants.{HereRow, EitherRow, EndRow}
 use Rattle.table.specs.declared.Table.{Table}
 use Rattle.table.specs.declared.FrameRead.{FrameRead}
 use Rattle.table.specs.declared.FrameRead.the-variants.{FrameIs, FrameRefused}
@@ -26,10 +26,10 @@ use Rattle.table.specs.declared.JobRead.the-variants.{JobIs, JobsEnd, Jo
 use Rattle.table.specs.declared.TableVerdict.{TableVerdict}
 use Rattle.table.specs.declared.TableVerdict.the-variants.{Whole, Refused}
 use Rattle.table.specs.declared.TableRead.{TableRead}
-use Rattle.table.specs.Limits.{mostJobs, largestTime}
-use Rattle.table.specs.Refusals.{start, refusalSays, Outcome, accepted, refused}
-use Rattle.table.specs.Kinds.{frameKind, hereKind, eitherKind, tableEnd}
-use Rattle.table.specs.Records.{frameOnly, rowOnly, judged, Parsed, one, last, bad, listFrom}
+use Rattle.records.specs.Limits.{mostJobs, largestTime}
+use Rattle.records.specs.Refusals.{start, refusalSays, Outcome, accepted, refused}
+use Rattle.records.specs.Kinds.{frameKind, hereKind, eitherKind, tableEnd}
+use Rattle.records.specs.Records.{frameOnly, rowOnly, judged, Parsed, one, last, bad, listFrom}
 
 -- What a table means: a deadline and its jobs.
 pub record JobTable : Type 0 where

@@ -1,17 +1,15 @@
 // A job table: its numbers, its records as bytes, and its reader. Reads any bytes, and refuses by number and place.
-pub mod refusal; // refusal.rt: the eighteen refusals and their places
-pub mod kind; // kind.rt: what a kind byte means
-
-use kind::Meaning;
-use kind::RowKind;
 use model::Job;
 use model::Sending;
-use refusal::Place;
-use refusal::Refusal;
+use records::kind;
+use records::kind::Meaning;
+use records::kind::RowKind;
+use records::refusal::Place;
+use records::refusal::Refusal;
 ghost use mathlib.Core.Path.{_≡_};
 ghost use Prim.Native.Nat.{_+_, _<_, _≤_};
 ghost use lib.ListN.{length};
-ghost use Rattle.table.specs.Limits.{mostJobs, largestTime, longestTable, longestPlan};
+ghost use Rattle.records.specs.Limits.{mostJobs, largestTime, longestTable, longestPlan};
 ghost use Rattle.table.specs.Tables.{frameAt, hereJob, eitherJob, jobAt, afterFrame, readTable, emptyTable, tableRead, endVerdict, isWhole};
 
 pub struct Table {

@@ -5,7 +5,7 @@ use crate::bytes;
 use crate::bytes::Bytes;
 use planner::Least;
 use planner::Planned;
-use table::refusal;
+use records::refusal;
 
 // Number 0 with the least deadline; or the refusal's number, with none.
 pub struct LeastAnswer {

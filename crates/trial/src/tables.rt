@@ -7,7 +7,7 @@ use crate::jobs::Jobs;
 use table::Table;
 ghost use mathlib.Core.Path.{_≡_};
 ghost use Prim.Native.Nat.{_≤_, _<_, min};
-ghost use Rattle.table.specs.Limits.{largestTime};
+ghost use Rattle.records.specs.Limits.{largestTime};
 
 // The largest times that the jobs of a table are drawn from, and a set of jobs that are either jobs; of the others half are.
 struct Style {

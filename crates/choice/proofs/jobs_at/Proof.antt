@@ -7,7 +7,7 @@ use Prim.Native.Nat.{_-_, _≤_}
 use native.Mathlib.Omega.{arith}
 use lib.ListN.{take, replicate}
 use Rattle.model.specs.Positions.{noJob}
-use Rattle.table.specs.Limits.{mostJobs}
+use Rattle.records.specs.Limits.{mostJobs}
 use Rattle.choice.specs.Choices.{jobsAt}
 use Rattle.choice.proofs.Loops.{jobs-more}
 use Rattle.choice.proofs.jobs_at.Statement.{statement}

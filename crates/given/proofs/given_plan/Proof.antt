@@ -9,7 +9,7 @@ use borrow.Author.Needs.{needs}
 use lib.ListN.{length, take, length-map}
 use lib.Seq.{getD-take, length-take-le}
 use Rattle.model.specs.declared.Laid.{Laid}
-use Rattle.table.specs.Limits.{mostJobs}
+use Rattle.records.specs.Limits.{mostJobs}
 use Rattle.plan.specs.declared.Step.{Step}
 use Rattle.draft.specs.declared.Draft.{Draft}
 use Rattle.given.proofs.Going.{Going, going-begin, going-room, going-none, going-more, going-end}

@@ -5,8 +5,8 @@ use mathlib.Core.List.{List}
 use denote.Ref.{now}
 use borrow.Author.Needs.{needs}
 use Rattle.model.proofs.Lists.{clash}
-use Rattle.table.specs.declared.refusal.Refusal.{Refusal}
-use Rattle.table.specs.Refusals.{Outcome, accepted, refused}
+use Rattle.records.specs.declared.refusal.Refusal.{Refusal}
+use Rattle.records.specs.Refusals.{Outcome, accepted, refused}
 use Rattle.table.specs.Tables.{JobTable, jobTable}
 use Rattle.plan.specs.declared.Step.{Step}
 use Rattle.plan.specs.declared.PlanRead.the-variants.{PlanRefused}

@@ -11,7 +11,7 @@ use lib.Seq.{getD-take, length-take-le}
 use borrow.Author.Needs.{needs}
 use Rattle.model.specs.Positions.{noJob}
 use Rattle.table.specs.declared.Table.{Table}
-use Rattle.table.specs.Limits.{mostJobs}
+use Rattle.records.specs.Limits.{mostJobs}
 use Rattle.table.specs.Tables.{jobTable}
 use Rattle.lookup.specs.Lookup.{jobOf, Indexes}
 use Rattle.lookup.proofs.Lookup.{index-tells, index-none}

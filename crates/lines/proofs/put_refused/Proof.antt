@@ -6,9 +6,9 @@ use Prim.Native.Nat.{ℕ, _+_, _≤_, _<_}
 use native.Mathlib.Omega.{arith}
 use denote.Ref.{now}
 use lib.ListN.{length}
-use Rattle.table.specs.Refusals.{refusalSays, saidBy}
+use Rattle.records.specs.Refusals.{refusalSays, saidBy}
 use Rattle.bytes.specs.Decimals.{decimal}
-use Rattle.table.specs.declared.refusal.Said.{Said}
+use Rattle.records.specs.declared.refusal.Said.{Said}
 use Rattle.lines.specs.Lines.{newline, pairLine, refusedWord, atWord, refusedText}
 use Rattle.bytes.proofs.Writing.{room-first, room-next, both}
 use Rattle.lines.proofs.Lines.{refused-placed, refused-bare, refused-fits}

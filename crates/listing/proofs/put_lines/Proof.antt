@@ -6,7 +6,7 @@ use mathlib.Core.Path.{_≡_, refl, _∙_}
 use lib.ListN.{length, take, getD, length-map, length-take}
 use lib.Seq.{getD-take, length-take-le}
 use borrow.Author.Needs.{needs}
-use Rattle.table.specs.Limits.{mostJobs}
+use Rattle.records.specs.Limits.{mostJobs}
 use Rattle.table.specs.Tables.{jobTable}
 use Rattle.plan.specs.Plans.{stepsOf, noStep}
 use Rattle.listing.specs.Found.{jobWith}

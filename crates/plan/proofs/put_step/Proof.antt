@@ -3,7 +3,7 @@ use mathlib.Core.Path.{_≡_}
 use mathlib.Core.Bool.{cond}
 use mathlib.Core.Logic.{⊎-elim}
 use borrow.Author.Needs.{needs}
-use Rattle.table.specs.Kinds.{runHere, sendAway}
+use Rattle.records.specs.Kinds.{runHere, sendAway}
 use Rattle.plan.proofs.put_step.Statement.{statement}
 use Rattle.plan.proofs.put_step.Tie as tie
 

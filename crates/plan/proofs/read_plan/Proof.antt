@@ -8,11 +8,11 @@ use mathlib.Core.List.{List, [], _∷_, _++_}
 use denote.Ref.{now}
 use lib.ListN.{length}
 use borrow.Author.Needs.{needs}
-use Rattle.table.specs.declared.refusal.Place.{Place}
-use Rattle.table.specs.Limits.{mostJobs}
-use Rattle.table.specs.Refusals.{start}
-use Rattle.table.specs.Records.{one}
-use Rattle.table.proofs.Listed.{SoFar, so-far-begin, so-far-refused, so-far-ended, so-far-twice, so-far-more}
+use Rattle.records.specs.declared.refusal.Place.{Place}
+use Rattle.records.specs.Limits.{mostJobs}
+use Rattle.records.specs.Refusals.{start}
+use Rattle.records.specs.Records.{one}
+use Rattle.records.proofs.Listed.{SoFar, so-far-begin, so-far-refused, so-far-ended, so-far-twice, so-far-more}
 use Rattle.plan.specs.declared.Step.{Step}
 use Rattle.plan.specs.declared.RecordRead.the-variants.{RecordIs}
 use Rattle.plan.specs.declared.PlanRead.the-variants.{PlanRefused}

@@ -5,11 +5,11 @@ use mathlib.Core.Path.{_≡_, sym, ap, _∙_}
 use mathlib.Core.Logic.{⊎-elim}
 use denote.Ref.{now}
 use borrow.Author.Needs.{needs}
-use Rattle.table.specs.declared.kind.StepKind.the-variants.{HereStep, AwayStep}
-use Rattle.table.specs.declared.kind.Meaning.the-variants.{Step}
-use Rattle.table.specs.declared.kind.Form.{Form}
-use Rattle.table.specs.Records.{stepOnly}
-use Rattle.table.proofs.Records.{no-byte, not-allowed, cut, opened, step-kind, not-step}
+use Rattle.records.specs.declared.kind.StepKind.the-variants.{HereStep, AwayStep}
+use Rattle.records.specs.declared.kind.Meaning.the-variants.{Step}
+use Rattle.records.specs.declared.kind.Form.{Form}
+use Rattle.records.specs.Records.{stepOnly}
+use Rattle.records.proofs.Records.{no-byte, not-allowed, cut, opened, step-kind, not-step}
 use Rattle.plan.specs.Plans.{stepBody, recordAt}
 use Rattle.plan.proofs.record_at.Statement.{statement}
 use Rattle.plan.proofs.record_at.Tie as tie

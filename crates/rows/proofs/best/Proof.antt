@@ -9,7 +9,7 @@ use borrow.Author.Needs.{needs}
 use lib.ListN.{length}
 use Rattle.model.specs.declared.Job.{Job}
 use Rattle.model.specs.Recurrence.{Holds, bestBelow}
-use Rattle.table.specs.Limits.{mostJobs}
+use Rattle.records.specs.Limits.{mostJobs}
 use Rattle.rows.specs.Rows.{nothing}
 use Rattle.rows.specs.Columns.{Rows, Single}
 use Rattle.rows.proofs.Bests.{best-next, single-next}

@@ -7,10 +7,10 @@ use mathlib.Core.Logic.{⊎-elim}
 use denote.Ref.{now}
 use borrow.Author.Needs.{needs}
 use borrow.Author.Tests.{lt-ltb, le-ltb, le-leb, lt-leb}
-use Rattle.table.specs.declared.kind.Form.{Form}
-use Rattle.table.specs.Records.{frameOnly}
+use Rattle.records.specs.declared.kind.Form.{Form}
+use Rattle.records.specs.Records.{frameOnly}
 use Rattle.table.specs.Tables.{deadlineAt, frameAt}
-use Rattle.table.proofs.Records.{no-byte, not-allowed, cut, opened, frame-kind, not-frame}
+use Rattle.records.proofs.Records.{no-byte, not-allowed, cut, opened, frame-kind, not-frame}
 use Rattle.table.proofs.frame_at.Statement.{statement}
 use Rattle.table.proofs.frame_at.Tie as tie
 

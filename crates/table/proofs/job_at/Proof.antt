@@ -6,12 +6,12 @@ use mathlib.Core.Logic.{⊎-elim}
 use denote.Ref.{now}
 use borrow.Author.Needs.{needs}
 use borrow.Author.Tests.{lt-ltb, le-ltb}
-use Rattle.table.specs.declared.kind.RowKind.the-variants.{HereRow, EitherRow}
-use Rattle.table.specs.declared.kind.Meaning.the-variants.{Row}
-use Rattle.table.specs.declared.kind.Form.{Form}
-use Rattle.table.specs.Records.{rowOnly}
+use Rattle.records.specs.declared.kind.RowKind.the-variants.{HereRow, EitherRow}
+use Rattle.records.specs.declared.kind.Meaning.the-variants.{Row}
+use Rattle.records.specs.declared.kind.Form.{Form}
+use Rattle.records.specs.Records.{rowOnly}
 use Rattle.table.specs.Tables.{rowBody, jobAt}
-use Rattle.table.proofs.Records.{no-byte, not-allowed, cut, opened, row-kind, not-row}
+use Rattle.records.proofs.Records.{no-byte, not-allowed, cut, opened, row-kind, not-row}
 use Rattle.table.proofs.job_at.Statement.{statement}
 use Rattle.table.proofs.job_at.Tie as tie
 

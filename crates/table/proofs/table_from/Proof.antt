@@ -11,13 +11,13 @@ use lib.ListN.{length}
 use borrow.Author.Needs.{needs}
 use borrow.Author.Tests.{not-true, not-false}
 use Rattle.model.specs.declared.Job.{Job}
-use Rattle.table.specs.declared.refusal.Place.{Place}
+use Rattle.records.specs.declared.refusal.Place.{Place}
 use Rattle.table.specs.declared.FrameRead.{FrameRead}
 use Rattle.table.specs.declared.Table.{Table}
-use Rattle.table.specs.Limits.{mostJobs}
-use Rattle.table.specs.Records.{one}
+use Rattle.records.specs.Limits.{mostJobs}
+use Rattle.records.specs.Records.{one}
 use Rattle.table.specs.Tables.{jobId, jobParsed, jobsRead, withDeadline, afterFrame, tableOf}
-use Rattle.table.proofs.Listed.{SoFar, so-far-begin, so-far-refused, so-far-ended, so-far-twice, so-far-more}
+use Rattle.records.proofs.Listed.{SoFar, so-far-begin, so-far-refused, so-far-ended, so-far-twice, so-far-more}
 use Rattle.table.proofs.Tables.{rowParsed, row-is, row-few, table-more, Judged, judged-refused, judged-ended, answered-whole, answered-refused}
 use Rattle.table.proofs.table_from.Statement.{statement}
 use Rattle.table.proofs.table_from.Tie as tie

@@ -9,19 +9,19 @@ use lib.ListN.{length, getD}
 use lib.Dec.{ltb, leb, eqb}
 use borrow.Author.Tests.{ltb-true, leb-true, eqb-true, lt-ltb, le-ltb, le-leb, lt-leb}
 use Rattle.model.proofs.Tests.{cond-all}
-use Rattle.table.specs.declared.refusal.Place.{Place}
-use Rattle.table.specs.declared.refusal.Refusal.{Refusal}
-use Rattle.table.specs.declared.refusal.Refusal.the-variants.{Short, Kind}
-use Rattle.table.specs.declared.kind.RowKind.{RowKind}
-use Rattle.table.specs.declared.kind.RowKind.the-variants.{HereRow, EitherRow, EndRow}
-use Rattle.table.specs.declared.kind.StepKind.{StepKind}
-use Rattle.table.specs.declared.kind.StepKind.the-variants.{HereStep, AwayStep, EndStep}
-use Rattle.table.specs.declared.kind.Meaning.{Meaning}
-use Rattle.table.specs.declared.kind.Meaning.the-variants.{Frame, Row, Step, Unknown}
-use Rattle.table.specs.declared.kind.Form.{Form}
-use Rattle.table.specs.Refusals.{past}
-use Rattle.table.specs.Kinds.{frameKind, hereKind, eitherKind, tableEnd, runHere, sendAway, planEnd}
-use Rattle.table.specs.Records.{form, formOf, frameOnly, rowOnly, stepOnly, allowed, judged}
+use Rattle.records.specs.declared.refusal.Place.{Place}
+use Rattle.records.specs.declared.refusal.Refusal.{Refusal}
+use Rattle.records.specs.declared.refusal.Refusal.the-variants.{Short, Kind}
+use Rattle.records.specs.declared.kind.RowKind.{RowKind}
+use Rattle.records.specs.declared.kind.RowKind.the-variants.{HereRow, EitherRow, EndRow}
+use Rattle.records.specs.declared.kind.StepKind.{StepKind}
+use Rattle.records.specs.declared.kind.StepKind.the-variants.{HereStep, AwayStep, EndStep}
+use Rattle.records.specs.declared.kind.Meaning.{Meaning}
+use Rattle.records.specs.declared.kind.Meaning.the-variants.{Frame, Row, Step, Unknown}
+use Rattle.records.specs.declared.kind.Form.{Form}
+use Rattle.records.specs.Refusals.{past}
+use Rattle.records.specs.Kinds.{frameKind, hereKind, eitherKind, tableEnd, runHere, sendAway, planEnd}
+use Rattle.records.specs.Records.{form, formOf, frameOnly, rowOnly, stepOnly, allowed, judged}
 
 -- the kind byte and the body's length of each kind of row and of step
 abbrev pub rowByte : RowKind → ℕ

@@ -5,11 +5,11 @@ use native.Mathlib.Omega.{arith}
 use mathlib.Core.Path.{_≡_, refl, ap, sym, _∙_}
 use mathlib.Core.List.{List, [], _∷_}
 use lib.ListN.{getD}
-use Rattle.table.specs.declared.refusal.Place.{Place}
-use Rattle.table.specs.declared.refusal.Refusal.{Refusal}
-use Rattle.table.specs.declared.refusal.Refusal.the-variants.{Short, Kind, Range, Many, Twice, After, None, Stranger, Kept, Left, Late, Phase, Number}
-use Rattle.table.specs.declared.refusal.Refusal.the-variants.{Clock, Who, Value, Early, Room}
-use Rattle.table.specs.Refusals.{refusalSays}
+use Rattle.records.specs.declared.refusal.Place.{Place}
+use Rattle.records.specs.declared.refusal.Refusal.{Refusal}
+use Rattle.records.specs.declared.refusal.Refusal.the-variants.{Short, Kind, Range, Many, Twice, After, None, Stranger, Kept, Left, Late, Phase, Number}
+use Rattle.records.specs.declared.refusal.Refusal.the-variants.{Clock, Who, Value, Early, Room}
+use Rattle.records.specs.Refusals.{refusalSays}
 
 -- the refusals in the order of their numbers, from 1
 inOrder : Place → List Refusal

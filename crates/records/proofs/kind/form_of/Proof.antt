@@ -1,9 +1,9 @@
--- `table::kind::form_of` meets its contract: each arm of the match is one line of `formOf`, and the last one is the rest. Assumes nothing.
+-- `records::kind::form_of` meets its contract: each arm of the match is one line of `formOf`, and the last one is the rest. Assumes nothing.
 use mathlib.Core.Path.{sym, ap}
 use borrow.Author.Tests.{ne-eqb}
-use Rattle.table.specs.Records.{formOf}
-use Rattle.table.proofs.kind.form_of.Statement.{statement}
-use Rattle.table.proofs.kind.form_of.Tie as tie
+use Rattle.records.specs.Records.{formOf}
+use Rattle.records.proofs.kind.form_of.Statement.{statement}
+use Rattle.records.proofs.kind.form_of.Tie as tie
 
 returns : tie.Need-returns
 unfolding formOf

@@ -6,18 +6,18 @@ use mathlib.Core.List.{List, [], _∷_, _++_, map}
 use mathlib.Core.Option.{Option, none, some}
 use lib.ListN.{length, getD}
 use lib.Dec.{ltb, leb, eqb}
-use Rattle.table.specs.declared.refusal.Place.{Place}
-use Rattle.table.specs.declared.refusal.Refusal.{Refusal}
-use Rattle.table.specs.declared.refusal.Refusal.the-variants.{Short, Kind, Many, Twice, After}
-use Rattle.table.specs.declared.kind.RowKind.{RowKind}
-use Rattle.table.specs.declared.kind.RowKind.the-variants.{HereRow, EitherRow, EndRow}
-use Rattle.table.specs.declared.kind.StepKind.{StepKind}
-use Rattle.table.specs.declared.kind.StepKind.the-variants.{HereStep, AwayStep, EndStep}
-use Rattle.table.specs.declared.kind.Meaning.{Meaning}
-use Rattle.table.specs.declared.kind.Meaning.the-variants.{Frame, Row, Step, Unknown}
-use Rattle.table.specs.declared.kind.Form.{Form}
-use Rattle.table.specs.Refusals.{past, Outcome, accepted, refused}
-use Rattle.table.specs.Kinds.{frameKind, hereKind, eitherKind, tableEnd, runHere, sendAway, planEnd}
+use Rattle.records.specs.declared.refusal.Place.{Place}
+use Rattle.records.specs.declared.refusal.Refusal.{Refusal}
+use Rattle.records.specs.declared.refusal.Refusal.the-variants.{Short, Kind, Many, Twice, After}
+use Rattle.records.specs.declared.kind.RowKind.{RowKind}
+use Rattle.records.specs.declared.kind.RowKind.the-variants.{HereRow, EitherRow, EndRow}
+use Rattle.records.specs.declared.kind.StepKind.{StepKind}
+use Rattle.records.specs.declared.kind.StepKind.the-variants.{HereStep, AwayStep, EndStep}
+use Rattle.records.specs.declared.kind.Meaning.{Meaning}
+use Rattle.records.specs.declared.kind.Meaning.the-variants.{Frame, Row, Step, Unknown}
+use Rattle.records.specs.declared.kind.Form.{Form}
+use Rattle.records.specs.Refusals.{past, Outcome, accepted, refused}
+use Rattle.records.specs.Kinds.{frameKind, hereKind, eitherKind, tableEnd, runHere, sendAway, planEnd}
 
 abbrev pub form : Meaning → ℕ → Form
 form m n = record { meaning = m; body = n }

@@ -1,7 +1,7 @@
 -- `refusal::numbers_of` meets its contract: each arm has the number and the place of its refusal. Assumes nothing.
 use borrow.Author.Needs.{needs}
-use Rattle.table.proofs.refusal.numbers_of.Statement.{statement}
-use Rattle.table.proofs.refusal.numbers_of.Tie as tie
+use Rattle.records.proofs.refusal.numbers_of.Statement.{statement}
+use Rattle.records.proofs.refusal.numbers_of.Tie as tie
 
 enum-known-f : tie.Need-enum-known-f
 enum-known-f c = search needs

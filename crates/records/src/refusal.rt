@@ -2,7 +2,7 @@
 ghost use mathlib.Core.List.{[], _∷_};
 ghost use mathlib.Core.Path.{_≡_};
 ghost use Prim.Native.Nat.{_+_, _<_, _^_};
-ghost use Rattle.table.specs.Refusals.{start, past, refusalSays, saidBy};
+ghost use Rattle.records.specs.Refusals.{start, past, refusalSays, saidBy};
 
 // Where in the bytes a record stands: the offset of its kind byte. The readers go from place to place by the two functions here, which alone make one.
 pub struct Place {

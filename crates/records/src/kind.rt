@@ -1,6 +1,6 @@
 // The kinds of record of tables and plans: their bytes, what a kind byte means, and how long the body is that it fixes.
 ghost use mathlib.Core.Path.{_≡_};
-ghost use Rattle.table.specs.Records.{formOf};
+ghost use Rattle.records.specs.Records.{formOf};
 
 // The bytes of the kinds, stated once; specs/Kinds.antt has the same, and `form_of` ties the two.
 pub const FRAME: u8 = 0x10;

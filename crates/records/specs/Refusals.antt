@@ -3,11 +3,11 @@
 use Prim.Native.Nat.{ℕ, _+_}
 use mathlib.Core.Bool.{true, false}
 use mathlib.Core.List.{List, [], _∷_}
-use Rattle.table.specs.declared.refusal.Place.{Place}
-use Rattle.table.specs.declared.refusal.Said.{Said}
-use Rattle.table.specs.declared.refusal.Refusal.{Refusal}
-use Rattle.table.specs.declared.refusal.Refusal.the-variants.{Short, Kind, Range, Many, Twice, After, None, Stranger, Kept, Left, Late, Phase, Number}
-use Rattle.table.specs.declared.refusal.Refusal.the-variants.{Clock, Who, Value, Early, Room}
+use Rattle.records.specs.declared.refusal.Place.{Place}
+use Rattle.records.specs.declared.refusal.Said.{Said}
+use Rattle.records.specs.declared.refusal.Refusal.{Refusal}
+use Rattle.records.specs.declared.refusal.Refusal.the-variants.{Short, Kind, Range, Many, Twice, After, None, Stranger, Kept, Left, Late, Phase, Number}
+use Rattle.records.specs.declared.refusal.Refusal.the-variants.{Clock, Who, Value, Early, Room}
 
 -- "The place is the offset of the record's kind byte": that of a file's first record,
 abbrev pub start : Place

@@ -11,12 +11,12 @@ use native.Mathlib.Omega.{arith}
 use borrow.Author.Tests.{leb-true, le-leb, eqb-true, eqb-false, eq-eqb, ne-eqb}
 use Rattle.model.specs.Lists.{All, Pairwise}
 use Rattle.model.proofs.Lists.{clash, pairwise-append, all-map}
-use Rattle.table.specs.declared.refusal.Place.{Place}
-use Rattle.table.specs.declared.refusal.Refusal.{Refusal}
-use Rattle.table.specs.declared.refusal.Refusal.the-variants.{Twice, After}
-use Rattle.table.specs.Limits.{mostJobs}
-use Rattle.table.specs.Refusals.{past, Outcome, accepted, refused}
-use Rattle.table.specs.Records.{Parsed, one, last, bad, used, follow, listFrom}
+use Rattle.records.specs.declared.refusal.Place.{Place}
+use Rattle.records.specs.declared.refusal.Refusal.{Refusal}
+use Rattle.records.specs.declared.refusal.Refusal.the-variants.{Twice, After}
+use Rattle.records.specs.Limits.{mostJobs}
+use Rattle.records.specs.Refusals.{past, Outcome, accepted, refused}
+use Rattle.records.specs.Records.{Parsed, one, last, bad, used, follow, listFrom}
 
 -- one more id
 used-more : (is : List ℕ) (i id : ℕ) → used (is ++ (i ∷ [])) id ≡ (used is id || eqb i id)
