@@ -64,15 +64,17 @@ module _ (p : Planner) (meets : (s before : List ℕ) → FreeAllows s before (p
   unfolding AllHold marked
   not-sooner-only v =
       let plans = marked-hold .0 blank _ _ blank-room (meets E blank) .0 in
-      let never = λ cs c k. each-choice _ (λ (ds : List Chosen). Never SoonerOnly 45 ds) sooner cs (c .each) (c .allowed) k in
-      says-not-zero None _ (sym (v E tableE readE never blank blank-room) ∙ plans)
+      says-not-zero None _
+      (sym (v E tableE readE (λ cs c k. each-choice _ (λ (ds : List Chosen). Never SoonerOnly 45 ds) sooner cs (c .each) (c .allowed) k) blank blank-room) ∙
+      plans)
 
   pub not-shortest-first : ¬ (GoesBy p ShortestFirst)
   unfolding AllHold marked
   not-shortest-first v =
       let plans = marked-hold .1 .1 .1 .1 .1 .1 .1 .1 .0 blank _ _ blank-room (meets table9 blank) .0 in
-      let never = λ cs c k. each-choice _ (λ (ds : List Chosen). Never ShortestFirst 40 ds) shortest cs (c .each) (c .allowed) k in
-      says-not-zero None _ (sym (v table9 _ read9 never blank blank-room) ∙ plans)
+      says-not-zero None _
+      (sym (v table9 _ read9 (λ cs c k. each-choice _ (λ (ds : List Chosen). Never ShortestFirst 40 ds) shortest cs (c .each) (c .allowed) k) blank blank-room) ∙
+      plans)
 
   -- that table's plan is `21 01 2F`, busy 5, last 15
   pub column-planned : Plans p tableColumn blank 3 5 15
@@ -81,5 +83,6 @@ module _ (p : Planner) (meets : (s before : List ℕ) → FreeAllows s before (p
 
   pub not-last-column : ¬ (GoesBy p LastColumn)
   not-last-column v =
-      let never = λ cs c k. each-choice _ (λ (ds : List Chosen). Never LastColumn 50 ds) last-column cs (c .each) (c .allowed) k in
-      says-not-zero None _ (sym (v tableColumn _ readColumn never blank blank-room) ∙ column-planned)
+      says-not-zero None _
+      (sym (v tableColumn _ readColumn (λ cs c k. each-choice _ (λ (ds : List Chosen). Never LastColumn 50 ds) last-column cs (c .each) (c .allowed) k) blank blank-room) ∙
+      column-planned)

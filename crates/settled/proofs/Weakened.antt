@@ -53,7 +53,8 @@ other = record {
 pub silent-record : ¬ (Settles frame-lent.call_in.ended Silent)
 unfolding nextOf open? sound?
 silent-record settles =
-    let told = ((idle, (tt, tt)), refl) in
-    let both = settles ([], tt) (to idle, (Next, tt)) (Refused Phase) (Refused Phase) (idle, (tt, tt)) (other, (tt, tt)) told told in
+    let both =
+    settles ([], tt) (to idle, (Next, tt)) (Refused Phase) (Refused Phase) (idle, (tt, tt)) (other, (tt, tt))
+    ((idle, (tt, tt)), refl) ((idle, (tt, tt)), refl) in
     let z : _≡_ {A = ℕ} 0 1 = ap (λ (m : Lasts frame-lent.call_in.ended ([], tt) (to idle, (Next, tt))). m .0 .number) (both .1) in
     omega arith
