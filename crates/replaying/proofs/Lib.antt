@@ -1,4 +1,3 @@
-pub mod Records
 pub mod Rooms
 pub mod Turns
 pub mod Runs

@@ -3,9 +3,9 @@ use Prim.Native.Nat.{ℕ, _+_, _≤_}
 use native.Mathlib.Omega.{arith}
 use mathlib.Core.List.{List, _++_}
 use lib.ListN.{length, length-append}
-use Rattle.replaying.specs.declared.EventKind.the-variants as K
-use Rattle.replaying.specs.declared.CallKind.{CallKind}
-use Rattle.replaying.specs.declared.CallKind.the-variants.{Begin, Other}
+use Rattle.log.specs.declared.EventKind.the-variants as K
+use Rattle.log.specs.declared.CallKind.{CallKind}
+use Rattle.log.specs.declared.CallKind.the-variants.{Begin, Other}
 use Rattle.replaying.specs.Lines.{callWord}
 
 pub word-short : (k : CallKind) → length (callWord k) ≤ 7

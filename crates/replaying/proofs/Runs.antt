@@ -13,7 +13,8 @@ use Rattle.bytes.specs.Writing.{Wrote}
 use Rattle.frame_record.specs.declared.Frame.{Frame}
 use Rattle.frame_record.specs.Answers.{idle}
 use Rattle.replaying.specs.declared.Turn.{Turn}
-use Rattle.replaying.specs.Log.{recordAt, frameAfter, goneBy, frameFrom, replayed}
+use Rattle.log.specs.Log.{recordAt}
+use Rattle.replaying.specs.Turns.{frameAfter, goneBy, frameFrom, replayed}
 use Rattle.replaying.specs.Lines.{lineOf, textFrom, replayText, TurnAt}
 use Rattle.replaying.proofs.Turns.{rest, rest-all, nothing, unrolled, turn-some}
 use Rattle.replaying.proofs.next_line.Reads as next-line

@@ -8,9 +8,27 @@ use lib.Seq.{take-all, drop-drop}
 use borrow.Author.Tests.{eq-eqb, ne-eqb}
 use Rattle.frame_record.specs.declared.Frame.{Frame}
 use Rattle.replaying.specs.declared.Turn.{Turn}
-use Rattle.replaying.specs.Log.{recordAt, frameAfter, goneBy, frameFrom}
+use Rattle.log.specs.declared.RecordRead.{RecordRead}
+use Rattle.log.specs.declared.RecordRead.the-variants.{Whole, Stop}
+use Rattle.log.specs.Log.{recordAt}
+use Rattle.replaying.specs.Turns.{frameAfter, goneBy, frameFrom}
 use Rattle.replaying.specs.Lines.{Moved}
-use Rattle.replaying.proofs.Records.{gone-some, gone-within}
+use Rattle.log.proofs.Records.{whole-is}
+
+-- a turn goes on by at least one byte, and not past the end
+pub gone-some : (s : List ℕ) → 0 < length s → 0 < goneBy s (recordAt s)
+gone-some s h = step (recordAt s) refl
+  where
+    step : (r : RecordRead) → recordAt s ≡ r → 0 < goneBy s r
+    step (Whole k n) e = whole-is s k n e .some
+    step Stop e = h
+
+pub gone-within : (s : List ℕ) → goneBy s (recordAt s) ≤ length s
+gone-within s = step (recordAt s) refl
+  where
+    step : (r : RecordRead) → recordAt s ≡ r → goneBy s r ≤ length s
+    step (Whole k n) e = whole-is s k n e .within
+    step Stop e = omega arith
 
 -- after the turns so far: those that may still come lead to the same record as all of them
 pub record Going (log : List ℕ) (first now : Frame) (at : ℕ) : Type 0 where

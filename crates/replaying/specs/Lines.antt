@@ -19,14 +19,15 @@ use Rattle.frame_record.specs.declared.Reading.the-variants.{Fresh, Pending, La
 use Rattle.frame_record.specs.declared.Answer.{Answer}
 use Rattle.frame_record.specs.declared.Answer.the-variants as A
 use Rattle.frame_record.specs.Answers.{idle}
-use Rattle.replaying.specs.declared.EventKind.{EventKind}
-use Rattle.replaying.specs.declared.EventKind.the-variants as K
-use Rattle.replaying.specs.declared.CallKind.{CallKind}
-use Rattle.replaying.specs.declared.CallKind.the-variants.{Begin, Other}
-use Rattle.replaying.specs.declared.RecordRead.{RecordRead}
-use Rattle.replaying.specs.declared.RecordRead.the-variants.{Whole, Stop}
+use Rattle.log.specs.declared.EventKind.{EventKind}
+use Rattle.log.specs.declared.EventKind.the-variants as K
+use Rattle.log.specs.declared.CallKind.{CallKind}
+use Rattle.log.specs.declared.CallKind.the-variants.{Begin, Other}
+use Rattle.log.specs.declared.RecordRead.{RecordRead}
+use Rattle.log.specs.declared.RecordRead.the-variants.{Whole, Stop}
 use Rattle.replaying.specs.declared.Turn.{Turn}
-use Rattle.replaying.specs.Log.{callOf, recordAt, frameAfter, goneBy}
+use Rattle.log.specs.Log.{callOf, recordAt}
+use Rattle.replaying.specs.Turns.{frameAfter, goneBy}
 
 -- the call's word: `begin `, `next `, `span `, `return `, `close `, `read `
 abbrev pub eventWord : EventKind → List ℕ

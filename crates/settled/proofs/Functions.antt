@@ -27,6 +27,7 @@ use Rattle.frame_begin.proofs as frame-begin
 use Rattle.frame_reports.proofs as frame-reports
 use Rattle.frame_calls.proofs as frame-calls
 use Rattle.listing.proofs as listing
+use Rattle.log.proofs as log
 use Rattle.replaying.proofs as replaying
 use Rattle.panel.proofs as panel
 use Rattle.frame_lent.proofs as frame-lent
@@ -244,10 +245,16 @@ begin-in κs i r s m n p q = let same = p ∙ sym q in (ap (λ (x : Called). x .
 pub call-in : Settles frame-lent.call_in.ended CallIn
 call-in κs i r s m n p q = let same = p ∙ sym q in (ap (λ (x : Called). x .answer) same, λ k. (same k .frame, m .1))
 
--- ---- listing, replaying
+-- ---- listing, log, replaying
 
 pub list-plan : Settles listing.list_plan.ended listing.list_plan.Reads.Learnt
 list-plan κs i r s m n p q = let same = listing.Texts.lists-settled _ _ r s (m .1 .0) (n .1 .0) p q in (same .0, λ k. (tt, (same .1 k, tt)))
+
+pub log-record-at : Settles log.record_at.ended log.record_at.Reads.Learnt
+log-record-at κs i r s m n p q = (p ∙ sym q, refl)
+
+pub log-called : Settles log.called.ended log.called.Reads.Learnt
+log-called κs i r s m n p q = (p ∙ sym q, refl)
 
 pub replay : Settles replaying.replay.ended replaying.replay.Reads.Learnt
 replay κs i r s m n p q = (p ∙ sym q, refl)

@@ -3,7 +3,7 @@ use native.Mathlib.Omega.{arith}
 use mathlib.Core.Path.{refl, sym, _∙_}
 use denote.Ref.{now}
 use lib.Seq.{length-take-le}
-use Rattle.replaying.proofs.Records.{whole-is, whole-taken}
+use Rattle.log.proofs.Records.{whole-is, whole-taken}
 use Rattle.bytes.proofs.Writing.{ends-within}
 use borrow.Author.Needs.{needs}
 use Rattle.replaying.proofs.next_line.Statement.{statement}

@@ -7,7 +7,7 @@ use lib.ListN.{length}
 use denote.Ref.{now}
 use borrow.Author.Needs.{needs}
 use Rattle.frame_record.specs.declared.Frame.{Frame}
-use Rattle.replaying.specs.Log.{frameFrom, replayed}
+use Rattle.replaying.specs.Turns.{frameFrom, replayed}
 use Rattle.replaying.proofs.Turns.{Going, starts, ends, turn, moved}
 use Rattle.replaying.proofs.replay.Statement.{statement}
 use Rattle.replaying.proofs.replay.Tie as tie

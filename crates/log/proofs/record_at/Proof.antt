@@ -1,11 +1,11 @@
--- `replaying::record_at` meets its contract: by the kind of the first byte, if there is one. Assumes nothing.
+-- `log::record_at` meets its contract: by the kind of the first byte, if there is one. Assumes nothing.
 use mathlib.Core.Path.{sym, ap, _∙_}
 use denote.Ref.{now}
-use Rattle.replaying.specs.Log.{readAs}
-use Rattle.replaying.proofs.Records.{read-empty, read-known}
+use Rattle.log.specs.Log.{readAs}
+use Rattle.log.proofs.Records.{read-empty, read-known}
 use borrow.Author.Needs.{needs}
-use Rattle.replaying.proofs.record_at.Statement.{statement}
-use Rattle.replaying.proofs.record_at.Tie as tie
+use Rattle.log.proofs.record_at.Statement.{statement}
+use Rattle.log.proofs.record_at.Tie as tie
 
 returns : tie.Need-returns
 returns c = read-empty (now (c .before .before .args .s)) (c .if1 .taken)

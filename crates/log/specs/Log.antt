@@ -1,6 +1,6 @@
 -- docs/REPLAY.md, 'The log in bytes': "Numbers are low byte first; a value is the four bytes of its 32-bit float pattern." The record at the front of
--- a log, the call that it is, and the frame's record after a whole log. Assumes nothing.
-use Prim.Native.Nat.{ℕ, zero, suc, _+_}
+-- a log, and the call that it is. Assumes nothing.
+use Prim.Native.Nat.{ℕ, _+_}
 use mathlib.Core.Bool.{cond}
 use mathlib.Core.List.{List}
 use lib.ListN.{length, getD, take, drop}
@@ -11,17 +11,16 @@ use Rattle.frame_record.specs.declared.Frame.{Frame}
 use Rattle.frame_record.specs.declared.Called.{Called}
 use Rattle.frame_record.specs.declared.Event.{Event}
 use Rattle.frame_record.specs.declared.Event.the-variants as E
-use Rattle.frame_record.specs.Answers.{idle}
 use Rattle.frame_calls.specs.Calls.{eventStep}
 use Rattle.frame_begin.specs.Begin.{beginStep}
-use Rattle.replaying.specs.declared.EventKind.{EventKind}
-use Rattle.replaying.specs.declared.EventKind.the-variants as K
-use Rattle.replaying.specs.declared.CallKind.{CallKind}
-use Rattle.replaying.specs.declared.CallKind.the-variants.{Begin, Other}
-use Rattle.replaying.specs.declared.KindRead.{KindRead}
-use Rattle.replaying.specs.declared.KindRead.the-variants.{Call, Unknown}
-use Rattle.replaying.specs.declared.RecordRead.{RecordRead}
-use Rattle.replaying.specs.declared.RecordRead.the-variants.{Whole, Stop}
+use Rattle.log.specs.declared.EventKind.{EventKind}
+use Rattle.log.specs.declared.EventKind.the-variants as K
+use Rattle.log.specs.declared.CallKind.{CallKind}
+use Rattle.log.specs.declared.CallKind.the-variants.{Begin, Other}
+use Rattle.log.specs.declared.KindRead.{KindRead}
+use Rattle.log.specs.declared.KindRead.the-variants.{Call, Unknown}
+use Rattle.log.specs.declared.RecordRead.{RecordRead}
+use Rattle.log.specs.declared.RecordRead.the-variants.{Whole, Stop}
 
 -- The table of kinds, line by line.
 unfoldable pub kindOf : ℕ → KindRead
@@ -74,21 +73,3 @@ beginOf f s = beginStep f (take (twoAt s 5) (drop 9 s)) (drop (9 + twoAt s 5) s)
 abbrev pub callOf : Frame → CallKind → List ℕ → Called
 callOf f Begin s = beginOf f s
 callOf f (Other k) s = eventStep f (eventOf k s)
-
--- One turn, where s is what is left of the log: the frame's record after it, and how far it goes; where the run stops, to the log's end.
-abbrev pub frameAfter : Frame → List ℕ → RecordRead → Frame
-frameAfter f s (Whole k n) = callOf f k (take n s) .frame
-frameAfter f s Stop = f
-
-abbrev pub goneBy : List ℕ → RecordRead → ℕ
-goneBy s (Whole k n) = n
-goneBy s Stop = length s
-
--- the frame's record after the turns that are left, of which there may be `most`
-unfoldable pub frameFrom : ℕ → Frame → List ℕ → Frame
-frameFrom zero f s = f
-frameFrom (suc most) f s = cond (eqb (length s) 0) f (frameFrom most (frameAfter f s (recordAt s)) (drop (goneBy s (recordAt s)) s))
-
--- the frame's record after a log from idle: a turn takes at least one byte
-unfoldable pub replayed : List ℕ → Frame
-replayed s = frameFrom (length s) idle s

@@ -1,4 +1,4 @@
--- `replaying::begun` meets its contract: the two parts of the record are the table and the plan. Assumes nothing.
+-- `log::begun` meets its contract: the two parts of the record are the table and the plan. Assumes nothing.
 use Prim.Native.Nat.{ℕ, _+_, _-_}
 use native.Mathlib.Omega.{arith}
 use mathlib.Core.Path.{_≡_, _∙_}
@@ -9,10 +9,10 @@ use denote.Ref.{now}
 use Rattle.bytes.specs.Numbers.{twoAt, fourAt}
 use Rattle.frame_record.specs.declared.Frame.{Frame}
 use Rattle.frame_begin.specs.Begin.{beginStep}
-use Rattle.replaying.specs.Log.{beginOf}
+use Rattle.log.specs.Log.{beginOf}
 use borrow.Author.Needs.{needs}
-use Rattle.replaying.proofs.begun.Statement.{statement}
-use Rattle.replaying.proofs.begun.Tie as tie
+use Rattle.log.proofs.begun.Statement.{statement}
+use Rattle.log.proofs.begun.Tie as tie
 
 -- the parts of the record, as the code cuts them
 parts :

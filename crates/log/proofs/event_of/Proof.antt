@@ -1,4 +1,4 @@
--- `replaying::event_of` meets its contract: each arm of the match is one line of `eventOf`. Assumes nothing.
+-- `log::event_of` meets its contract: each arm of the match is one line of `eventOf`. Assumes nothing.
 use Prim.Native.Nat.{ℕ}
 use native.Mathlib.Omega.{arith}
 use mathlib.Core.Path.{_≡_, sym, ap, _∙_}
@@ -6,14 +6,14 @@ use mathlib.Core.List.{List}
 use denote.Ref.{now}
 use lib.ListN.{length, getD}
 use lib.Ieee.{Float}
-use Rattle.replaying.specs.declared.EventKind.{EventKind}
-use Rattle.replaying.specs.Log.{eventSize, valueOf, eventOf}
+use Rattle.log.specs.declared.EventKind.{EventKind}
+use Rattle.log.specs.Log.{eventSize, valueOf, eventOf}
 use Rattle.bytes.specs.Numbers.{twoAt, fourAt}
 use Rattle.frame_record.specs.declared.Event.the-variants as E
-use Rattle.replaying.specs.declared.EventKind.the-variants as K
+use Rattle.log.specs.declared.EventKind.the-variants as K
 use borrow.Author.Needs.{needs}
-use Rattle.replaying.proofs.event_of.Statement.{statement}
-use Rattle.replaying.proofs.event_of.Tie as tie
+use Rattle.log.proofs.event_of.Statement.{statement}
+use Rattle.log.proofs.event_of.Tie as tie
 
 -- the record has as many bytes as its kind says
 sized : (s : tie.Start) (k : EventKind) → s .args .kind ≡ k → eventSize k ≡ length (now (s .args .s))

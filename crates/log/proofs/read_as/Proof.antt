@@ -1,17 +1,17 @@
--- `replaying::read_as` meets its contract: a begin by its own lengths, every other record by its kind. Assumes nothing.
+-- `log::read_as` meets its contract: a begin by its own lengths, every other record by its kind. Assumes nothing.
 use Prim.Native.Nat.{ℕ, _+_}
 use mathlib.Core.Path.{_≡_, _∙_}
 use mathlib.Core.List.{List}
 use denote.Ref.{now}
 use lib.ListN.{length}
 use Rattle.bytes.specs.Numbers.{twoAt}
-use Rattle.replaying.specs.declared.EventKind.{EventKind}
-use Rattle.replaying.specs.declared.CallKind.the-variants.{Begin, Other}
-use Rattle.replaying.specs.Log.{eventSize, recordSize, fitting}
-use Rattle.replaying.proofs.Records.{begin-cut}
+use Rattle.log.specs.declared.EventKind.{EventKind}
+use Rattle.log.specs.declared.CallKind.the-variants.{Begin, Other}
+use Rattle.log.specs.Log.{eventSize, recordSize, fitting}
+use Rattle.log.proofs.Records.{begin-cut}
 use borrow.Author.Needs.{needs}
-use Rattle.replaying.proofs.read_as.Statement.{statement}
-use Rattle.replaying.proofs.read_as.Tie as tie
+use Rattle.log.proofs.read_as.Statement.{statement}
+use Rattle.log.proofs.read_as.Tie as tie
 
 begin-size :
     (s : List ℕ) (a b : ℕ) → a ≡ twoAt s 5 → b ≡ twoAt s 7 → fitting Begin (9 + a + b) (length s) ≡ fitting Begin (recordSize Begin s) (length s)

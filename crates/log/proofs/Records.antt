@@ -11,14 +11,14 @@ use lib.Dec.{leb}
 use borrow.Author.Tests.{leb-true, lt-leb}
 use Rattle.model.proofs.Lists.{clash}
 use Rattle.bytes.specs.Numbers.{twoAt}
-use Rattle.replaying.specs.declared.EventKind.the-variants as K
-use Rattle.replaying.specs.declared.CallKind.{CallKind}
-use Rattle.replaying.specs.declared.CallKind.the-variants.{Begin, Other}
-use Rattle.replaying.specs.declared.KindRead.{KindRead}
-use Rattle.replaying.specs.declared.KindRead.the-variants.{Call, Unknown}
-use Rattle.replaying.specs.declared.RecordRead.{RecordRead}
-use Rattle.replaying.specs.declared.RecordRead.the-variants.{Whole, Stop}
-use Rattle.replaying.specs.Log.{kindOf, recordSize, fitting, readAs, recordAt, goneBy}
+use Rattle.log.specs.declared.EventKind.the-variants as K
+use Rattle.log.specs.declared.CallKind.{CallKind}
+use Rattle.log.specs.declared.CallKind.the-variants.{Begin, Other}
+use Rattle.log.specs.declared.KindRead.{KindRead}
+use Rattle.log.specs.declared.KindRead.the-variants.{Call, Unknown}
+use Rattle.log.specs.declared.RecordRead.{RecordRead}
+use Rattle.log.specs.declared.RecordRead.the-variants.{Whole, Stop}
+use Rattle.log.specs.Log.{kindOf, recordSize, fitting, readAs, recordAt}
 
 -- by the kind of its first byte; with no byte there is none
 pub read-known : (s : List ℕ) (k : KindRead) → k ≡ kindOf (getD s 0 0) → readAs s k ≡ recordAt s
@@ -80,18 +80,3 @@ size-taken (Other k) s n e = e
 
 pub whole-taken : (s : List ℕ) (k : CallKind) (n : ℕ) → WholeIs s k n → recordSize k (take n s) ≡ length (take n s)
 whole-taken s k n w = size-taken k s n (w .size) ∙ sym (length-take-le n s (w .within))
-
--- a turn goes on by at least one byte, and not past the end
-pub gone-some : (s : List ℕ) → 0 < length s → 0 < goneBy s (recordAt s)
-gone-some s h = step (recordAt s) refl
-  where
-    step : (r : RecordRead) → recordAt s ≡ r → 0 < goneBy s r
-    step (Whole k n) e = whole-is s k n e .some
-    step Stop e = h
-
-pub gone-within : (s : List ℕ) → goneBy s (recordAt s) ≤ length s
-gone-within s = step (recordAt s) refl
-  where
-    step : (r : RecordRead) → recordAt s ≡ r → goneBy s r ≤ length s
-    step (Whole k n) e = whole-is s k n e .within
-    step Stop e = omega arith

@@ -1,7 +1,7 @@
--- `replaying::fitting` meets its contract: whole, or cut. Assumes nothing.
+-- `log::fitting` meets its contract: whole, or cut. Assumes nothing.
 use borrow.Author.Tests.{le-leb, lt-leb}
-use Rattle.replaying.proofs.fitting.Statement.{statement}
-use Rattle.replaying.proofs.fitting.Tie as tie
+use Rattle.log.proofs.fitting.Statement.{statement}
+use Rattle.log.proofs.fitting.Tie as tie
 
 returns : tie.Need-returns
 returns c = rw (le-leb _ _ (c .if1 .taken))

@@ -1,9 +1,9 @@
--- `replaying::kind_of` meets its contract: each arm of the match is one line of `kindOf`. Assumes nothing.
+-- `log::kind_of` meets its contract: each arm of the match is one line of `kindOf`. Assumes nothing.
 use mathlib.Core.Path.{sym, ap}
 use borrow.Author.Tests.{ne-eqb}
-use Rattle.replaying.specs.Log.{kindOf}
-use Rattle.replaying.proofs.kind_of.Statement.{statement}
-use Rattle.replaying.proofs.kind_of.Tie as tie
+use Rattle.log.specs.Log.{kindOf}
+use Rattle.log.proofs.kind_of.Statement.{statement}
+use Rattle.log.proofs.kind_of.Tie as tie
 
 returns : tie.Need-returns
 unfolding kindOf

@@ -1,4 +1,4 @@
--- `replaying::value_of` meets its contract: the code's two tests are those of a NaN's pattern. Assumes nothing.
+-- `log::value_of` meets its contract: the code's two tests are those of a NaN's pattern. Assumes nothing.
 use Prim.Native.Nat.{ℕ, _/_, _%_}
 use mathlib.Core.Path.{_≡_, refl, sym, ap, _∙_}
 use mathlib.Core.Bool.{Bool, true, false, cond, not, _&&_}
@@ -7,9 +7,9 @@ use lib.Ieee as Ieee
 use lib.Ieee.{nan, nanBits, ofBits, binary32}
 use denote.Floats.{passes}
 use borrow.Author.Tests.{eq-eqb, ne-eqb}
-use Rattle.replaying.specs.Log.{valueOf}
-use Rattle.replaying.proofs.value_of.Statement.{statement}
-use Rattle.replaying.proofs.value_of.Tie as tie
+use Rattle.log.specs.Log.{valueOf}
+use Rattle.log.proofs.value_of.Statement.{statement}
+use Rattle.log.proofs.value_of.Tie as tie
 
 is : (p q : Bool) → p ≡ true → q ≡ false → (p && not q) ≡ true
 is true false e h = refl

@@ -1,9 +1,9 @@
--- `replaying::called` meets its contract: a begin, or any other call. Assumes nothing.
+-- `log::called` meets its contract: a begin, or any other call. Assumes nothing.
 use mathlib.Core.Path.{ap, _∙_}
 use Rattle.frame_calls.specs.Calls.{eventStep}
 use borrow.Author.Needs.{needs}
-use Rattle.replaying.proofs.called.Statement.{statement}
-use Rattle.replaying.proofs.called.Tie as tie
+use Rattle.log.proofs.called.Statement.{statement}
+use Rattle.log.proofs.called.Tie as tie
 
 enum-told : tie.Need-enum-told
 enum-told c = search needs
