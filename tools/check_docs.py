@@ -22,8 +22,8 @@ TOP = os.path.abspath(os.path.join(os.path.dirname(os.path.abspath(__file__)), '
 DOCUMENTS = sorted(glob.glob('*.md', root_dir=TOP) + glob.glob('*/README.md', root_dir=TOP) + glob.glob('docs/**/*.md', root_dir=TOP, recursive=True))
 FUNCTIONS = 'docs/FUNCTIONS.md'
 FORMS = 'docs/DECISIONS.md'
-ENTRIES = ['table', 'plan', 'planner', 'judge', 'frame_record', 'frame_begin', 'frame_reports', 'frame_calls', 'frame_lent', 'listing', 'replaying',
-           'panel']
+ENTRIES = ['records', 'table', 'plan', 'planner', 'judge', 'frame_record', 'frame_begin', 'frame_reports', 'frame_calls', 'frame_lent', 'listing', 'log',
+           'replaying', 'panel']
 troubles = []
 
 
