@@ -6,12 +6,10 @@ use crate::bytes::Bytes;
 use planner::Least;
 use planner::Planned;
 use records::refusal;
+use records::refusal::Refusal;
 
-// Number 0 with the least deadline; or the refusal's number, with none.
-pub struct LeastAnswer {
-    pub number: usize,
-    pub deadline: u32,
-}
+// What the least deadline is given as where there is none.
+pub const NO_DEADLINE: u32 = 0;
 
 // What a planner answered, with the area as it left it.
 fn answer_of(planned: Planned, area: [u8; bytes::AREA]) -> Answer {
@@ -45,18 +43,19 @@ pub fn plan_given(table: Bytes) -> Answer {
     answer_of(planned, area)
 }
 
-// The least deadline.
-pub fn least_deadline(table: Bytes) -> LeastAnswer {
+// The least deadline; a refusal other than NONE, which no table of the trial gets, is no deadline that a table can have.
+pub fn least_deadline(table: Bytes) -> u32 {
     let text = table.area;
     let n = table.length();
     match planner::least_deadline(&text[..n]) {
-        Least::DeadlineIs(deadline) => LeastAnswer {
-            number: 0,
-            deadline: deadline as u32,
-        },
-        Least::NoDeadline(f) => LeastAnswer {
-            number: refusal::numbers_of(f).number,
-            deadline: 0,
-        },
+        Least::DeadlineIs(deadline) => deadline as u32,
+        Least::NoDeadline(f) => refused_least(f),
+    }
+}
+
+fn refused_least(f: Refusal) -> u32 {
+    match f {
+        Refusal::None => NO_DEADLINE,
+        _ => 0xFFFF_FFFF,
     }
 }

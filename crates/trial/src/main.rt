@@ -11,7 +11,6 @@ mod tables; // tables.rt: the tables, from fixed numbers
 
 use answers::Answer;
 use answers::Best;
-use asked::LeastAnswer;
 use bytes::Bytes;
 use jobs::Jobs;
 use search::Rule;
@@ -42,31 +41,26 @@ fn given_findings(jobs: Jobs, table: Bytes, deadline: u32, least: u32) -> u64
     (found << report::GIVEN) | report::mark(report::ONLY_FREE, only_free)
 }
 
-// The least deadline that some choice meets: at least 1, and NONE above the largest time.
-fn expected_least(least: u32) -> LeastAnswer {
+// The least deadline that some choice meets: at least 1, and none above the largest time.
+fn expected_least(least: u32) -> u32 {
     if (Table::LARGEST_TIME as u32) < least {
-        return LeastAnswer {
-            number: 7,
-            deadline: 0,
-        };
+        return asked::NO_DEADLINE;
     }
-    LeastAnswer {
-        number: 0,
-        deadline: search::later(least, 1),
-    }
+    search::later(least, 1)
 }
 
 // The least deadline, against the least finish of all choices; and where the table's own deadline lies.
 fn least_findings(table: Bytes, deadline: u32, least: u32) -> u64 {
-    let expected = expected_least(least);
+    let edge = expected_least(least);
     let answer = asked::least_deadline(table);
-    let differs = answer.number != expected.number || answer.deadline != expected.deadline;
-    let edge = expected.deadline;
-    report::mark(report::LEAST_FOUND, answer.number == 0)
-        | report::mark(report::LEAST_NONE, answer.number == 7)
-        | report::mark(report::ONE_BELOW, edge != 0 && deadline == edge - 1)
+    report::mark(report::LEAST_FOUND, answer != asked::NO_DEADLINE)
+        | report::mark(report::LEAST_NONE, answer == asked::NO_DEADLINE)
+        | report::mark(
+            report::ONE_BELOW,
+            deadline != 0xFFFF_FFFF && deadline + 1 == edge,
+        )
         | report::mark(report::AT_LEAST, deadline == edge)
-        | report::mark(report::LEAST_DIFFERS, differs)
+        | report::mark(report::LEAST_DIFFERS, answer != edge)
 }
 
 // Whether a planner that finds these finishes and goes by this rule is told from a right one.
@@ -112,8 +106,8 @@ fn planner_findings(
     (free << report::FREE) | given | least_findings(table, deadline, least)
 }
 
-// All that is found of a table; its bytes are shown if it is the first at which a planner differs.
-fn findings(jobs: Jobs, finishes: [u32; 64], least: u32, deadline: u16, before: u64) -> u64
+// All that is found of a table.
+fn findings(jobs: Jobs, finishes: [u32; 64], least: u32, deadline: u16) -> u64
     requires { ⌜ jobs .count ≤ 6 ⌝ }
 {
     let table = tables::table_bytes(jobs, deadline);
@@ -121,29 +115,27 @@ fn findings(jobs: Jobs, finishes: [u32; 64], least: u32, deadline: u16, before: 
     let best = answers::best_choice(jobs, finishes, limit, Rule::FreeOrder);
     let right = answers::answer_of(jobs, best, Rule::FreeOrder);
     let planned = planner_findings(jobs, table, best, right, limit, least);
-    if planned & report::DIFFERENCES != 0 && before & report::DIFFERENCES == 0 {
-        report::show(table);
-    }
     let size = report::mark(report::TABLE, true) | report::mark(report::SIZE + jobs.count, true);
     size | planned | error_findings(jobs, finishes, limit, right)
 }
 
 // The findings of the table with this number.
-fn tried(number: u64, before: u64) -> u64 {
+fn tried(number: u64) -> u64 {
     let jobs = tables::jobs_of(number);
     let finishes = search::finishes(jobs, Rule::FreeOrder);
     let least = search::least_of(finishes);
     let deadline = tables::deadline_of(number, least);
-    findings(jobs, finishes, least, deadline, before)
+    findings(jobs, finishes, least, deadline)
 }
 
-// Tries all tables, and prints the report.
+// Tries all tables, names the first at which a planner differs, and prints the report.
 fn main() {
     let mut counts = [0; 32];
     let mut found = 0;
     let mut number = 0;
     while number < TABLES {
-        let now = tried(number, found);
+        let now = tried(number);
+        report::name_first(found, now, number);
         let sums = report::counted(counts, now);
         counts = sums;
         found = found | now;

@@ -1,6 +1,5 @@
 // What is found of a table, as bits; how often each was found over all tables; and the report.
 // A finding's number is its place in the report, in which `#` stands for a count.
-use crate::bytes::Bytes;
 
 // A table, and from 1 on a table of 0 to 6 jobs.
 pub const TABLE: usize = 0;
@@ -83,18 +82,13 @@ fn print_text(text: &[u8], counts: [u64; 32]) {
     }
 }
 
-// The bytes of a table at which a planner differs, for a person to look at.
-pub fn show(table: Bytes) {
-    io::write_all(1, b"differs at");
-    let text = table.area;
-    let n = table.length();
-    let mut k = 0;
-    while k < n {
-        io::write_all(1, b" ");
-        io::print_hex(1, text[k] as u64, 2);
-        k += 1;
+// Names the table at which a planner differs first, for a person to look at: `tables` makes it of its number.
+pub fn name_first(found: u64, now: u64, number: u64) {
+    if now & DIFFERENCES != 0 && found & DIFFERENCES == 0 {
+        io::write_all(1, b"differs at table ");
+        io::print_decimal(1, number);
+        io::write_all(1, b"\n");
     }
-    io::write_all(1, b"\n");
 }
 
 // Prints the report.

@@ -16,6 +16,9 @@ loop-holds c = search needs
 tried-requires : tie.Need-tried-requires Inv-loop μ-loop
 tried-requires c κs = search needs
 
+name-first-requires : tie.Need-name-first-requires Inv-loop μ-loop
+name-first-requires c κs = search needs
+
 counted-requires : tie.Need-counted-requires Inv-loop μ-loop
 counted-requires c κs = search needs
 
@@ -42,6 +45,7 @@ main-spec =
     μ-loop
     loop-holds
     tried-requires
+    name-first-requires
     counted-requires
     add-number
     loop-less
