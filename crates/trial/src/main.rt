@@ -128,17 +128,13 @@ fn tried(number: u64) -> u64 {
     findings(jobs, finishes, least, deadline)
 }
 
-// Tries all tables, names the first at which a planner differs, and prints the report.
+// Tries all tables, and prints the report.
 fn main() {
     let mut counts = [0; 32];
-    let mut found = 0;
     let mut number = 0;
     while number < TABLES {
-        let now = tried(number);
-        report::name_first(found, now, number);
-        let sums = report::counted(counts, now);
+        let sums = report::counted(counts, tried(number));
         counts = sums;
-        found = found | now;
         number += 1;
     }
     report::print(counts);

@@ -33,11 +33,6 @@ pub const ONE_BELOW: usize = 22;
 
 pub const AT_LEAST: usize = 23;
 
-// One of the three planners differs from the search.
-pub const DIFFERENCES: u64 = (1 << (FREE + DIFFERS))
-    | (1 << (GIVEN + DIFFERS))
-    | (1 << LEAST_DIFFERS);
-
 // An error that looks right would show.
 pub const SOONER_CAUGHT: usize = 24;
 
@@ -79,15 +74,6 @@ fn print_text(text: &[u8], counts: [u64; 32]) {
             io::write_all(1, &byte);
         }
         k += 1;
-    }
-}
-
-// Names the table at which a planner differs first, for a person to look at: `tables` makes it of its number.
-pub fn name_first(found: u64, now: u64, number: u64) {
-    if now & DIFFERENCES != 0 && found & DIFFERENCES == 0 {
-        io::write_all(1, b"differs at table ");
-        io::print_decimal(1, number);
-        io::write_all(1, b"\n");
     }
 }
 

@@ -5,19 +5,16 @@ use Rattle.trial.proofs.main.Statement.{statement}
 use Rattle.trial.proofs.main.Tie as tie
 
 abbrev Inv-loop : tie.InvT-loop
-Inv-loop counts₀ found₀ number₀ counts found number = number ≤ 4000
+Inv-loop counts₀ number₀ counts number = number ≤ 4000
 
 abbrev μ-loop : tie.MeasureT-loop
-μ-loop counts₀ found₀ number₀ counts found number = 4000 - number
+μ-loop counts₀ number₀ counts number = 4000 - number
 
 loop-holds : tie.Need-loop-holds Inv-loop μ-loop
 loop-holds c = search needs
 
 tried-requires : tie.Need-tried-requires Inv-loop μ-loop
 tried-requires c κs = search needs
-
-name-first-requires : tie.Need-name-first-requires Inv-loop μ-loop
-name-first-requires c κs = search needs
 
 counted-requires : tie.Need-counted-requires Inv-loop μ-loop
 counted-requires c κs = search needs
@@ -45,7 +42,6 @@ main-spec =
     μ-loop
     loop-holds
     tried-requires
-    name-first-requires
     counted-requires
     add-number
     loop-less
