@@ -1,6 +1,6 @@
 -- What the work rows' least total says at a deadline, whether some timetable meets it, and what a bisection over that question keeps.
 -- Assumes nothing.
-use mathlib.Core.Path.{◌≡◌, refl, ap}
+use mathlib.Core.Path.{◌≡◌, refl, ap, subst}
 use mathlib.Core.List.{List, reverse}
 use Prim.Native.Nat.{ℕ, suc, ◌≤◌, ◌<◌, ◌-◌}
 use native.Mathlib.Omega.{arith}
@@ -37,7 +37,9 @@ module _ (d x y : ℕ) (p : Prepared) (js : List Job) (held : p ≡ prepared_of 
   best = best_below d (reverse (jobs_in_away_order js)) (base js) (suc d)
 
   is_least : Holds nothing x y best
-  is_least = rw (held_jobs p js held, ap (λ (q : Prepared). q.base) held) at least
+  is_least =
+      subst (λ (l : List Job). Holds nothing x y (best_below d (reverse l) (base js) (suc d))) (held_jobs p js held)
+      (subst (λ (b : ℕ). Holds nothing x y (best_below d (reverse (take p.count p.jobs)) b (suc d))) (ap (λ (q : Prepared). q.base) held) least)
 
   pub answer_mask : d ≤ largest_time → x ≤ d → Mask y ≡ best_mask_of (answer d js)
   answer_mask s l = mask_of d x y best s is_least l

@@ -1,5 +1,7 @@
 // From a table to the best choice: its either jobs are put in away order once, then the work rows are asked at a deadline.
 // The least deadline is found by bisection over the same question.
+#![tactic(auto)]
+
 ghost use Rattle.std.specs.Prelude.{◌≡◌, List, ◌++◌, ℕ, ◌-◌, ◌≤◌, ◌<◌, get_or, take, replicate};
 ghost use Rattle.model.specs.declared.Job.{Job};
 ghost use Rattle.model.specs.Timetable.{Met};
@@ -13,7 +15,7 @@ use model::{Job, Sending};
 use table::Table;
 
 // The either jobs in away order and their positions in the table, and the local times of the here-only jobs in all.
-#[derive(Drop)]
+#[derive(Clone, Copy)]
 pub struct Prepared {
     pub count: usize,
     pub positions: [usize; Table::MOST_JOBS],
@@ -22,14 +24,14 @@ pub struct Prepared {
 }
 
 // The best choice at a deadline: bit j says that the j-th job in away order is away.
-#[derive(Drop)]
+#[derive(Clone, Copy)]
 pub enum BestMask {
     Mask(u32),
     Nothing,
 }
 
 // The least deadline that some timetable meets; never, where not even the largest time is met.
-#[derive(Drop)]
+#[derive(Clone, Copy)]
 pub enum EarliestMet {
     MetAt(u16),
     NeverMet,

@@ -1,4 +1,6 @@
 // A plan in the making: its steps so far, with their busy total and last finish. Both planners make theirs with it.
+#![tactic(auto)]
+
 ghost use Rattle.std.specs.Prelude.{◌≡◌, true, [], ◌≤◌, ◌<◌};
 ghost use Rattle.model.specs.Laying.{chosen, most_busy};
 ghost use Rattle.records.specs.Limits.{most_jobs};
@@ -7,14 +9,14 @@ ghost use Rattle.draft.specs.Drafts.{draft_of, with_chosen, with_if};
 use model::{Job, Laid};
 use plan::{Plan, Step};
 
-#[derive(Drop)]
+#[derive(Clone, Copy)]
 pub struct Draft {
     pub plan: Plan,
     pub laid: Laid,
 }
 
 // A planner's result: an enum does not hold an array, so the draft stands beside `found`, and has no steps where nothing is found.
-#[derive(Drop)]
+#[derive(Clone, Copy)]
 pub struct Drafted {
     pub found: bool,
     pub draft: Draft,

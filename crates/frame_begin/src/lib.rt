@@ -1,4 +1,6 @@
 // Begin: a frame opens with a table and a plan that pass the check, under a new number.
+#![tactic(auto)]
+
 ghost use Rattle.std.specs.Prelude.{◌≡◌, ◌≤◌, length, take};
 ghost use Rattle.records.specs.Limits.{most_jobs};
 ghost use Rattle.records.specs.Refusals.{accepted};

@@ -1,4 +1,6 @@
 // Next, close and read, and the step that makes every call but begin: a record and a call give an answer and the record afterwards.
+#![tactic(auto)]
+
 ghost use Rattle.std.specs.Prelude.{◌≡◌};
 ghost use Rattle.frame_record.specs.Answers.{done};
 ghost use Rattle.frame_calls.specs.Calls.{next_of, closed, close_step, unreported, reading_of, read_of, asked, event_step};

@@ -1,5 +1,7 @@
 // The frame runner on a record that the panel's loop lends: each function takes the record apart, calls the step by value and leaves
 // the record brought up to date where it lies. Two functions serve every call: begin, and the others by an event.
+#![tactic(auto)]
+
 ghost use Rattle.std.specs.Prelude.{◌≡◌};
 ghost use Rattle.frame_begin.specs.Begin.{begin_step};
 ghost use Rattle.frame_calls.specs.Calls.{event_step};

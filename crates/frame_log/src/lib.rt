@@ -1,12 +1,14 @@
 // A frame's log: its records, by their kind bytes, and the call that each one is.
 // specs/Log.antt has the record at the front of a log and its call; docs/REPLAY.md has the bytes.
+#![tactic(auto)]
+
 ghost use Rattle.std.specs.Prelude.{◌≡◌, length};
 ghost use Rattle.frame_log.specs.Log.{kind_of, event_size, record_size, fitting, read_as, record_at, value_of, event_of, begin_of, call_of};
 
 use frame_record::{Called, Event, Frame};
 
 // The records that fix their length.
-#[derive(Drop)]
+#[derive(Clone, Copy)]
 pub enum EventKind {
     Next,
     Span,
@@ -15,20 +17,20 @@ pub enum EventKind {
     Read,
 }
 
-#[derive(Drop)]
+#[derive(Clone, Copy)]
 pub enum CallKind {
     Begin,
     Other(EventKind),
 }
 
-#[derive(Drop)]
+#[derive(Clone, Copy)]
 pub enum KindRead {
     Call(CallKind),
     Unknown,
 }
 
 // The record at the front of a log, by its kind and its length; or the run stops there.
-#[derive(Drop)]
+#[derive(Clone, Copy)]
 pub enum RecordRead {
     Whole(CallKind, usize),
     Stop,

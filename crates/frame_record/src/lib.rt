@@ -1,5 +1,7 @@
 // The frame's record: what the panel's loop keeps of a frame, what a call answers, and the test that every call makes first.
 // An unsound record is refused PHASE by every call and stays as found.
+#![tactic(auto)]
+
 ghost use Rattle.std.specs.Prelude.{◌≡◌, ◌&&◌, ◌≤◌};
 ghost use Rattle.records.specs.Limits.{most_jobs};
 ghost use Rattle.frame_record.specs.Finite.{finite?};
@@ -11,7 +13,7 @@ use records::refusal::Refusal;
 use table::Table;
 
 // Before any frame, during one, after one.
-#[derive(Drop)]
+#[derive(Clone, Copy)]
 pub enum Phase {
     Idle,
     Open,
@@ -19,14 +21,14 @@ pub enum Phase {
 }
 
 // A value never stands without the number of its frame.
-#[derive(Drop)]
+#[derive(Clone, Copy)]
 pub struct Sample {
     pub value: f32,
     pub frame: u32,
 }
 
 // Where a job stands in the open frame; `Out` is with its server.
-#[derive(Drop)]
+#[derive(Clone, Copy)]
 pub enum Standing {
     Waiting,
     Out,
@@ -35,7 +37,7 @@ pub enum Standing {
 }
 
 // What a read says of a job: only a fresh reading carries a value.
-#[derive(Drop)]
+#[derive(Clone, Copy)]
 pub enum Reading {
     Fresh(Sample),
     Pending,
@@ -44,7 +46,7 @@ pub enum Reading {
 }
 
 // A job of the table: whether the plan sends it away, and where it stands.
-#[derive(Drop)]
+#[derive(Clone, Copy)]
 pub struct Entry {
     pub id: u8,
     pub away: bool,
@@ -52,7 +54,7 @@ pub struct Entry {
 }
 
 // The entries stand in table order; order[k] is the table position of the k-th job of the plan, and `next` how far the plan is.
-#[derive(Drop)]
+#[derive(Clone, Copy)]
 pub struct Frame {
     pub phase: Phase,
     pub number: u32,
@@ -65,7 +67,7 @@ pub struct Frame {
 }
 
 // What a call is answered; specs/Answers.antt has the numbers that it says.
-#[derive(Drop)]
+#[derive(Clone, Copy)]
 pub enum Answer {
     Done,
     Panel(u8, bool),
@@ -75,14 +77,14 @@ pub enum Answer {
 }
 
 // What a call gives: its answer, and the record afterwards.
-#[derive(Drop)]
+#[derive(Clone, Copy)]
 pub struct Called {
     pub answer: Answer,
     pub frame: Frame,
 }
 
 // Every call but begin, as a value.
-#[derive(Drop)]
+#[derive(Clone, Copy)]
 pub enum Event {
     Next,
     SpanEnd {

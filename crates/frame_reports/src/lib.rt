@@ -1,4 +1,6 @@
 // The calls that report a job's value: a span's end and a return. Each is refused, or moves one job on.
+#![tactic(auto)]
+
 ghost use Rattle.std.specs.Prelude.{◌≡◌, ◌<◌};
 ghost use Rattle.records.specs.Limits.{most_jobs};
 ghost use Rattle.frame_record.specs.Sound.{position_at};

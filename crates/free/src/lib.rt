@@ -1,4 +1,6 @@
 // The free-order planner on a table that is read: the best choice's away jobs in away order, then its here jobs in table order.
+#![tactic(auto)]
+
 ghost use Rattle.std.specs.Prelude.{◌≡◌, List, ◌++◌, ◌≤◌, take};
 ghost use Rattle.model.specs.declared.Job.{Job};
 ghost use Rattle.model.specs.Lists.{filter};

@@ -1,4 +1,6 @@
 // The given-order planner on a table that is read: document 01's Algorithm 1, one pass over the jobs in table order.
+#![tactic(auto)]
+
 ghost use Rattle.std.specs.Prelude.{◌≡◌, ◌≤◌, take};
 ghost use Rattle.model.specs.GivenOrder.{goes, decide, given};
 ghost use Rattle.model.specs.Laying.{most_busy};
@@ -12,7 +14,7 @@ use plan::{Plan, Step};
 use table::Table;
 
 // What becomes of the next job: it is run, away or here, or it cannot be on time.
-#[derive(Drop)]
+#[derive(Clone, Copy)]
 pub enum Decision {
     Run(bool),
     Neither,

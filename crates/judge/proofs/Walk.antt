@@ -5,7 +5,7 @@ use native.Mathlib.Numerals.{add-one}
 use native.Mathlib.Omega.{arith}
 use mathlib.Core.Path.{◌≡◌, refl, sym, ap, ◌∙◌}
 use mathlib.Core.Logic.{◌⊎◌, inl, inr, ⊎_elim}
-use mathlib.Core.Bool.{Bool, true, false, not, ◌&&◌}
+use mathlib.Core.Bool.{true, false, not, ◌&&◌}
 use mathlib.Core.List.{List, [], ◌∷◌, ◌++◌, map}
 use mathlib.Core.Option.{none, some}
 use lib.ListN.{length, take, drop, length-take}
@@ -15,7 +15,7 @@ use Rattle.model.specs.declared.Job.{Job}
 use Rattle.model.specs.declared.Laid.{Laid}
 use Rattle.model.specs.Lists.{All}
 use Rattle.model.specs.Timetable.{Chosen, is_either, span}
-use Rattle.model.specs.FreeOrder.{busy, last_from}
+use Rattle.model.specs.FreeOrder.{last_from}
 use Rattle.model.specs.Laying.{chosen, laid_of, laid_with, most_busy}
 use Rattle.model.proofs.Lists.{clash, all_map, member_all}
 use Rattle.model.proofs.Laying.{laid_more}

@@ -1,5 +1,7 @@
 // The plan check: any table and any plan are judged by number, and a plan that passes is told its last finish and busy total.
 // The plan's bytes are looked at where they stand: no copy of the plan and no decoded list of it is held.
+#![tactic(auto)]
+
 ghost use Rattle.std.specs.Prelude.{◌≡◌, not, ◌&&◌};
 ghost use Rattle.model.specs.Timetable.{is_either};
 ghost use Rattle.table.specs.Tables.{Sound, job_table};
@@ -12,7 +14,7 @@ use plan::PlanRead;
 use records::refusal::Refusal;
 use table::{Table, TableVerdict};
 
-#[derive(Drop)]
+#[derive(Clone, Copy)]
 pub enum Checked {
     Passes { last: u32, busy: u32 },
     Fails(Refusal),

@@ -1,5 +1,7 @@
 // What every line of text is made of: a word with a number behind it, two of them on a line, and the line of a refusal.
 // The lister, the replay and what comes after them write these into a lent area, at a place of it (`Wrote` of crate bytes).
+#![tactic(auto)]
+
 ghost use Rattle.std.specs.Prelude.{◌++◌, ◌+◌, ◌≤◌, length};
 ghost use Rattle.records.specs.Refusals.{refusal_says};
 ghost use Rattle.octets.specs.Decimals.{decimal};

@@ -1,5 +1,7 @@
 // Reads a table from standard input, and prints its free-order plan or its refusal to standard output.
 // The first 267 bytes settle the text (crate listing, proofs/Settled.antt), so input beyond the buffer's 4,096 changes nothing.
+#![tactic(auto)]
+
 use listing::Listed;
 
 fn main() {

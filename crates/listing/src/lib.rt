@@ -1,5 +1,7 @@
 // The lister's text: the free-order plan of a table, or a refusal, as document 01 has it printed, at the front of a lent buffer.
 // specs/Listing.antt has the text for any table bytes; its fixed words stand here and in crate lines as byte strings.
+#![tactic(auto)]
+
 ghost use Rattle.std.specs.Prelude.{◌≡◌, ◌++◌, ◌+◌, ◌≤◌, length, get_or};
 ghost use Rattle.model.specs.Laying.{most_busy};
 ghost use Rattle.model.specs.Positions.{no_job};
@@ -18,7 +20,7 @@ use records::refusal::Refusal;
 use table::{Table, TableVerdict};
 
 // The text's length, or no room for the longest text.
-#[derive(Drop)]
+#[derive(Clone, Copy)]
 pub enum Listed {
     Text(usize),
     NoRoom,

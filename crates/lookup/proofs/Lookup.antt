@@ -143,6 +143,7 @@ module _ {A : Type 0} (key : A → ℕ) where
 
   pub with_own : (xs : List A) (y : A) → Distinct key xs → Memᴰ y xs → with_key key xs (key y) ≡ some y
   unfolding with_key
+  with_own [] y d m = elim m [ ]
   with_own (z ∷ xs) y d (Memᴰ.head e) = rw (e, eq-eqb (key z) (key z) refl)
   with_own (z ∷ xs) y d (Memᴰ.tail m) = rw (ne_eqb (key z) (key y) (member_all _ d.0 m)) (with_own xs y d.1 m)
 

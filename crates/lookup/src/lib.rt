@@ -1,4 +1,6 @@
 // Where the job with an id stands in a table: one search, made once for a table, for all that look jobs up by their ids.
+#![tactic(auto)]
+
 ghost use Rattle.std.specs.Prelude.{◌≤◌};
 ghost use Rattle.records.specs.Limits.{most_jobs};
 ghost use Rattle.table.specs.Tables.{job_table};
@@ -7,7 +9,7 @@ ghost use Rattle.lookup.specs.Lookup.{Indexes};
 use table::Table;
 
 // What a search for an id comes to.
-#[derive(Drop)]
+#[derive(Clone, Copy)]
 pub enum Found {
     At(usize),
     Nowhere,

@@ -1,17 +1,19 @@
 // A job of the table, as document 01 has it: an id, a local time C, and for an either job a setup time S and a return time I.
 // What timetables, choices, plans and runs of such jobs are stands in specs/, and what is true of them in proofs/.
+#![tactic(auto)]
+
 ghost use Rattle.std.specs.Prelude.{◌≡◌, ◌≤◌};
 ghost use Rattle.model.specs.Timetable.{span, wait};
 ghost use Rattle.model.specs.Laying.{chosen, laid_with, most_busy};
 
 // Whether a job may be sent away: a here-only job has no setup and no return time, an either job has both.
-#[derive(Drop)]
+#[derive(Clone, Copy)]
 pub enum Sending {
     HereOnly,
     Either { setup: u16, back: u16 },
 }
 
-#[derive(Drop)]
+#[derive(Clone, Copy)]
 pub struct Job {
     pub id: u8,
     pub local: u16,
@@ -48,7 +50,7 @@ pub fn wait_of(job: Job, away: bool) -> u32
 }
 
 // Jobs laid back to back from tick 0: the sum of their spans, which is when the last span ends, and the latest finish.
-#[derive(Drop)]
+#[derive(Clone, Copy)]
 pub struct Laid {
     pub busy: u32,
     pub last: u32,

@@ -1,5 +1,7 @@
 // Words and numbers written into an area that the caller lends, at a place of it, and numbers of two and four bytes read from a place.
 // What is written is told by `Wrote` of specs/Writing.antt, and the rest of the area is left.
+#![tactic(auto)]
+
 ghost use Rattle.std.specs.Prelude.{◌≡◌, ◌+◌, ◌<◌, ◌≤◌, length};
 ghost use Rattle.octets.specs.Writing.{Wrote};
 ghost use Rattle.octets.specs.Decimals.{decimal};

@@ -1,5 +1,7 @@
 // What C and Rust call: the planners and the plan check with plain numbers for answers (include/zhiblator.h).
 // `number` is 0 for an accepted call, else the refusal's number; a field that an answer does not have is 0.
+#![tactic(auto)]
+
 ghost use Rattle.std.specs.Prelude.{◌≡◌};
 ghost use Rattle.planner.specs.declared.Planned.{Planned};
 ghost use Rattle.planner.specs.declared.Least.{Least};
@@ -12,7 +14,7 @@ use planner::{Least, Planned};
 use records::refusal;
 
 #[repr(C)]
-#[derive(Drop)]
+#[derive(Clone, Copy)]
 pub struct PlannedNumbers {
     pub number: u64,
     pub place: u64,
@@ -22,7 +24,7 @@ pub struct PlannedNumbers {
 }
 
 #[repr(C)]
-#[derive(Drop)]
+#[derive(Clone, Copy)]
 pub struct LeastNumbers {
     pub number: u64,
     pub place: u64,
@@ -30,7 +32,7 @@ pub struct LeastNumbers {
 }
 
 #[repr(C)]
-#[derive(Drop)]
+#[derive(Clone, Copy)]
 pub struct CheckedNumbers {
     pub number: u64,
     pub place: u64,

@@ -1,4 +1,6 @@
 // A plan: its reader, which takes any bytes and reads them where they stand, and its writer at the front of a lent area.
+#![tactic(auto)]
+
 ghost use Rattle.std.specs.Prelude.{◌≡◌, [], ◌++◌, ◌+◌, ◌<◌, ◌≤◌, length, drop};
 ghost use Rattle.records.specs.Limits.{most_jobs, longest_plan};
 ghost use Rattle.octets.specs.Writing.{Wrote};
@@ -10,34 +12,34 @@ use records::refusal::{Place, Refusal};
 use table::Table;
 
 // One line of a plan: the job with this id, sent away or run here.
-#[derive(Drop)]
+#[derive(Clone, Copy)]
 pub struct Step {
     pub id: u8,
     pub away: bool,
 }
 
 // A record of a plan: a step with the place of the record after it, or the end with the place after it.
-#[derive(Drop)]
+#[derive(Clone, Copy)]
 pub enum Record {
     Listed(Step, Place),
     Last(Place),
 }
 
-#[derive(Drop)]
+#[derive(Clone, Copy)]
 pub enum RecordRead {
     RecordIs(Record),
     RecordRefused(Refusal),
 }
 
 // A whole plan has this many steps.
-#[derive(Drop)]
+#[derive(Clone, Copy)]
 pub enum PlanRead {
     PlanIs(usize),
     PlanRefused(Refusal),
 }
 
 // A plan that is being made: the first `count` steps stand.
-#[derive(Drop)]
+#[derive(Clone, Copy)]
 pub struct Plan {
     pub count: usize,
     pub steps: [Step; Table::MOST_JOBS],

@@ -1,5 +1,7 @@
 // The free-order plan, the given-order plan and the least deadline of a table that has been read, and one line above each the planner over bytes.
 // Any table and any area get an answer by number; a plan is written at the front of the area, and a refusal leaves all of it.
+#![tactic(auto)]
+
 ghost use Rattle.std.specs.Prelude.{◌≡◌, List, ◌≤◌, length};
 ghost use Rattle.std.proofs.Math.Option.{Option};
 ghost use Rattle.model.specs.Timetable.{Chosen};
@@ -15,14 +17,14 @@ use records::refusal::Refusal;
 use table::{Table, TableRead, TableVerdict};
 
 // A plan of so many bytes is written, with its busy total and last finish; or there is a refusal.
-#[derive(Drop)]
+#[derive(Clone, Copy)]
 pub enum Planned {
     PlanWritten { bytes: usize, busy: u32, last: u32 },
     NotPlanned(Refusal),
 }
 
 // The least deadline that some timetable meets; or there is a refusal.
-#[derive(Drop)]
+#[derive(Clone, Copy)]
 pub enum Least {
     DeadlineIs(u16),
     NoDeadline(Refusal),

@@ -2,7 +2,7 @@
 -- what every accepted list is, and that an accepted list and its bytes tell each other. Assumes nothing.
 use Prim.Native.Nat.{ℕ, zero, suc, ◌+◌, ◌-◌, ◌≤◌, ◌<◌}
 use mathlib.Core.Path.{◌≡◌, refl, sym, ap, subst, ◌∙◌}
-use mathlib.Core.Bool.{Bool, true, false, cond, ◌||◌, or-true, or_false, or_assoc}
+use mathlib.Core.Bool.{Bool, true, false, cond, ◌||◌, or-true, or-false, or_assoc}
 use mathlib.Core.List.{List, [], ◌∷◌, ◌++◌, map, flat_map, Memᴰ, append-nil, append_assoc}
 use lib.ListN.{length, get_or, set, drop, replicate, length-append, length-set, length-replicate, length-drop, get_or-replicate, drop_of_length-le}
 use lib.Seq.{append_snoc, set-append_seam, get_or-set_same, get_or-set_other, drop-drop, drop_at}
@@ -21,12 +21,13 @@ use Rattle.records.specs.Records.{Parsed, one, last, bad, used, follow, list_fro
 -- one more id
 used_more : (is : List ℕ) (i id : ℕ) → used (is ++ (i ∷ [])) id ≡ (used is id || eqb i id)
 unfolding used
-used_more [] i id = or_false (eqb i id)
+used_more [] i id = or-false (eqb i id)
 used_more (k ∷ is) i id = rw (used_more is i id) (sym (or_assoc (eqb k id) (used is id) (eqb i id)))
 
 -- an id that is among them is used
 pub used_member : (ids : List ℕ) (id : ℕ) → Memᴰ id ids → used ids id ≡ true
 unfolding used
+used_member [] id m = elim m [ ]
 used_member (i ∷ ids) id (Memᴰ.head e) = rw (eq-eqb i id (sym e))
 used_member (i ∷ ids) id (Memᴰ.tail m) = rw (used_member ids id m) (or-true (eqb i id))
 
@@ -52,7 +53,7 @@ seen_more {ids} {seen} i h so =
   where
     go : (j : ℕ) → get_or seen j false ≡ used ids j → (b : Bool) → eqb i j ≡ b → get_or (set seen i true) j false ≡ (used ids j || b)
     go j e true x = rw (← eqb-true i j x) (get_or-set_same seen i true false (rw so.size h) ∙ sym (or-true (used ids i)))
-    go j e false x = get_or-set_other seen i j true false (λ y. eqb-false i j x (sym y)) ∙ (e ∙ sym (or_false (used ids j)))
+    go j e false x = get_or-set_other seen i j true false (λ y. eqb-false i j x (sym y)) ∙ (e ∙ sym (or-false (used ids j)))
 
 module _ {A : Type 0} where
   -- one more of n entries, where those that hold nothing yet hold d

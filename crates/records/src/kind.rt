@@ -18,7 +18,7 @@ pub const SEND_AWAY: u8 = 0x21;
 pub const PLAN_END: u8 = 0x2F;
 
 // The records of a table after the first.
-#[derive(Drop)]
+#[derive(Clone, Copy)]
 pub enum RowKind {
     HereRow,
     EitherRow,
@@ -26,14 +26,14 @@ pub enum RowKind {
 }
 
 // The records of a plan.
-#[derive(Drop)]
+#[derive(Clone, Copy)]
 pub enum StepKind {
     HereStep,
     AwayStep,
     EndStep,
 }
 
-#[derive(Drop)]
+#[derive(Clone, Copy)]
 pub enum Meaning {
     Frame,
     Row(RowKind),
@@ -41,7 +41,7 @@ pub enum Meaning {
     Unknown,
 }
 
-#[derive(Drop)]
+#[derive(Clone, Copy)]
 pub struct Form {
     pub meaning: Meaning,
     pub body: usize,

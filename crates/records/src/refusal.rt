@@ -3,7 +3,7 @@ ghost use Rattle.std.specs.Prelude.{[], ◌∷◌, ◌≡◌, ◌+◌, ◌<◌, 
 ghost use Rattle.records.specs.Refusals.{start, past, refusal_says, said_by};
 
 // Where in the bytes a record stands: the offset of its kind byte. The readers go from place to place by the two functions here, which alone make one.
-#[derive(Drop)]
+#[derive(Clone, Copy)]
 pub struct Place {
     pub at: usize,
 }
@@ -28,7 +28,7 @@ impl Place {
 }
 
 // In the order of document 01's table, numbers 1 to 18.
-#[derive(Drop)]
+#[derive(Clone, Copy)]
 pub enum Refusal {
     Short(Place),
     Kind(Place),
@@ -51,7 +51,7 @@ pub enum Refusal {
 }
 
 // What a refusal says to the caller, in plain numbers: its own and, if it is placed, that of its place.
-#[derive(Drop)]
+#[derive(Clone, Copy)]
 pub struct Said {
     pub number: usize,
     pub placed: bool,

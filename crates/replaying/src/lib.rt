@@ -1,6 +1,8 @@
 // A frame's log as text: calls read from bytes, made one after another on one record, a line written for each.
 // specs/Turns.antt has the frame's record after a log, specs/Lines.antt the line of each call and the text of a log.
 // No contract can speak of standard output: that a line's bytes go there, one line after the other, stands in `print_line` and `replay` alone.
+#![tactic(auto)]
+
 ghost use Rattle.std.specs.Prelude.{◌≡◌, ◌+◌, ◌≤◌, length};
 ghost use Rattle.std.specs.Float.Ieee.{to_bits};
 ghost use Rattle.std.specs.Float.{binary32};
@@ -15,7 +17,7 @@ use frame_log::{CallKind, EventKind, RecordRead};
 use frame_record::{Answer, Frame, Reading, Sample};
 
 // What one turn leaves: the frame's record, how many bytes of the log it took, and how many its line has.
-#[derive(Drop)]
+#[derive(Clone, Copy)]
 pub struct Turn {
     pub frame: Frame,
     pub gone: usize,

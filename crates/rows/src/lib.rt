@@ -1,5 +1,7 @@
 // The planner's work rows: document 01's recurrence (4), (5) over two local arrays, one column for each setup total.
 // `least` gives the least busy total over all columns, and the mask of the choice that has it.
+#![tactic(auto)]
+
 ghost use Rattle.std.specs.Prelude.{◌≡◌, List, reverse, suc, ◌+◌, ◌*◌, ◌≤◌, ◌<◌, length, take};
 ghost use Rattle.model.specs.Recurrence.{Holds, best_below};
 ghost use Rattle.model.specs.Timetable.{setup_time, return_time};
@@ -17,14 +19,14 @@ const COLUMNS: usize = 4001;
 const NOTHING: u32 = 4_000_000;
 
 // A choice's total, and its mask: bit j says that the j-th job in away order is away.
-#[derive(Drop)]
+#[derive(Clone, Copy)]
 pub struct Lowest {
     pub total: u32,
     pub mask: u32,
 }
 
 // The columns setup..end at which a job can be sent away; 0..0 where there is none.
-#[derive(Drop)]
+#[derive(Clone, Copy)]
 struct Room {
     setup: usize,
     end: usize,

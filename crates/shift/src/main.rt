@@ -1,6 +1,8 @@
 // A shift: a hundred thousand frames of Table E played through the frame runner, on one record from idle, with frame numbers that rise.
 // In every 7th frame job 1's answer comes one tick after the deadline, and in the next frame it is offered again under its old number;
 // in every 10th frame job 2's answer never comes. Prints what was read, and how many readings were not this frame's own.
+#![tactic(auto)]
+
 use frame_record::{Answer, Event, Frame, Reading, Sample};
 use records::refusal::Refusal;
 
@@ -29,13 +31,13 @@ const STALE: usize = 8;
 
 const PENDING: usize = 9;
 
-#[derive(Drop)]
+#[derive(Clone, Copy)]
 struct Counts {
     at: [u64; 16],
 }
 
 // The runner's record, and the counts so far.
-#[derive(Drop)]
+#[derive(Clone, Copy)]
 struct Played {
     frame: Frame,
     counts: Counts,

@@ -1,4 +1,6 @@
 // A job table: its numbers, its records as bytes, and its reader. Reads any bytes, and refuses by number and place.
+#![tactic(auto)]
+
 ghost use Rattle.std.specs.Prelude.{◌≡◌, ◌+◌, ◌<◌, ◌≤◌, length};
 ghost use Rattle.records.specs.Limits.{most_jobs, largest_time, longest_table, longest_plan};
 ghost use Rattle.table.specs.Tables.{frame_at, here_job, either_job, job_at, after_frame, read_table, empty_table, table_read, end_verdict, is_whole};
@@ -8,7 +10,7 @@ use records::kind;
 use records::kind::{Meaning, RowKind};
 use records::refusal::{Place, Refusal};
 
-#[derive(Drop)]
+#[derive(Clone, Copy)]
 pub struct Table {
     pub deadline: u16,
     pub count: usize,
@@ -71,28 +73,28 @@ impl Table {
 }
 
 // The deadline with the place of the record after it; or a refusal.
-#[derive(Drop)]
+#[derive(Clone, Copy)]
 pub enum FrameRead {
     FrameIs(u16, Place),
     FrameRefused(Refusal),
 }
 
 // A job with the place of the record after it; the end record with the place after it; or a refusal.
-#[derive(Drop)]
+#[derive(Clone, Copy)]
 pub enum JobRead {
     JobIs(Job, Place),
     JobsEnd(Place),
     JobRefused(Refusal),
 }
 
-#[derive(Drop)]
+#[derive(Clone, Copy)]
 pub enum TableVerdict {
     Whole,
     Refused(Refusal),
 }
 
 // An enum does not hold an array, so the table stands beside the verdict: the empty one with a refusal.
-#[derive(Drop)]
+#[derive(Clone, Copy)]
 pub struct TableRead {
     pub verdict: TableVerdict,
     pub table: Table,

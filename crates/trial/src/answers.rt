@@ -8,17 +8,17 @@ use crate::search::Rule;
 use crate::{bytes, jobs, orders, search};
 
 // Number 0 with a plan at the front of the area; or the refusal's number, with the area as it was lent.
-#[derive(Drop)]
+#[derive(Clone, Copy)]
 pub struct Answer {
     pub number: usize,
     pub length: usize,
     pub busy: u32,
     pub last: u32,
-    pub area: [u8; octets::AREA],
+    pub area: [u8; bytes::AREA],
 }
 
 // The best choice so far, and whether another one has the same busy total; `NEVER` is the total while there is none.
-#[derive(Drop)]
+#[derive(Clone, Copy)]
 pub struct Best {
     pub choice: usize,
     pub busy: u32,
@@ -26,7 +26,7 @@ pub struct Best {
 }
 
 // A refusal's answer, with the area as it was lent.
-pub fn refused(number: usize, area: [u8; octets::AREA]) -> Answer {
+pub fn refused(number: usize, area: [u8; bytes::AREA]) -> Answer {
     Answer {
         number,
         length: 0,
@@ -112,7 +112,7 @@ pub fn answer_of(jobs: Jobs, best: Best, rule: Rule) -> Answer
     requires { jobs.count ≤ 6 }
 {
     if best.busy == search::NEVER {
-        return refused(7, octets::untouched());
+        return refused(7, bytes::untouched());
     }
     let choice = best.choice;
     let order = search::listing(jobs, choice, rule);
@@ -143,5 +143,5 @@ pub fn differ(a: Answer, b: Answer) -> bool {
     }
     let one = a.area;
     let other = b.area;
-    !octets::same(one, other)
+    !bytes::same(one, other)
 }

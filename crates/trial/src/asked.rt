@@ -10,7 +10,7 @@ use records::refusal::Refusal;
 pub const NO_DEADLINE: u32 = 0;
 
 // What a planner answered, with the area as it left it.
-fn answer_of(planned: Planned, area: [u8; octets::AREA]) -> Answer {
+fn answer_of(planned: Planned, area: [u8; bytes::AREA]) -> Answer {
     match planned {
         Planned::PlanWritten { bytes, busy, last } => Answer {
             number: 0,
@@ -27,7 +27,7 @@ fn answer_of(planned: Planned, area: [u8; octets::AREA]) -> Answer {
 pub fn plan_free(table: Bytes) -> Answer {
     let text = table.area;
     let n = table.length();
-    let mut area = octets::untouched();
+    let mut area = bytes::untouched();
     let planned = planner::plan_free(&text[..n], &mut area);
     answer_of(planned, area)
 }
@@ -36,7 +36,7 @@ pub fn plan_free(table: Bytes) -> Answer {
 pub fn plan_given(table: Bytes) -> Answer {
     let text = table.area;
     let n = table.length();
-    let mut area = octets::untouched();
+    let mut area = bytes::untouched();
     let planned = planner::plan_given(&text[..n], &mut area);
     answer_of(planned, area)
 }

@@ -5,7 +5,7 @@ ghost use Rattle.io.specs.Counts.{IsPrefixLen};
 
 pub const AREA: usize = 72;
 
-#[derive(Drop)]
+#[derive(Clone, Copy)]
 pub struct Bytes {
     pub count: usize,
     pub area: [u8; AREA],

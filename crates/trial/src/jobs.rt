@@ -2,7 +2,7 @@
 // Eight places hold the jobs, so that the last three bits of any number name a place.
 ghost use Rattle.std.specs.Prelude.{◌≤◌};
 
-#[derive(Drop)]
+#[derive(Clone, Copy)]
 pub struct Job {
     pub id: u8,
     pub local: u16,
@@ -10,7 +10,7 @@ pub struct Job {
     pub back: u16,
 }
 
-#[derive(Drop)]
+#[derive(Clone, Copy)]
 pub struct Jobs {
     pub count: usize,
     pub list: [Job; 8],

@@ -1,5 +1,7 @@
 // The trial: tables of 0 to 6 jobs, each planned in free order, in given order and for the least deadline, and compared with a search
 // over all choices and all orders. Prints how many tables came out how, and how many would catch a planner that is wrong on purpose.
+#![tactic(auto)]
+
 mod answers; // answers.rt: what the search says that a planner is to answer
 mod asked; // asked.rt: the planners, asked over bytes
 mod bytes; // bytes.rt: bytes at the front of an area
@@ -13,7 +15,7 @@ ghost use Rattle.std.specs.Prelude.{◌≤◌};
 
 use answers::{Answer, Best};
 use jobs::Jobs;
-use octets::Bytes;
+use bytes::Bytes;
 use search::Rule;
 use table::Table;
 
@@ -82,7 +84,7 @@ fn error_findings(jobs: Jobs, finishes: [u32; 64], deadline: u32, right: Answer)
     let by_sooner = caught(jobs, fewer, deadline, Rule::FreeOrder, right);
     let by_shortest = caught(jobs, shortest, deadline, Rule::ShortestReturnFirst, right);
     let by_ties = caught(jobs, finishes, deadline, Rule::TiesTheOtherWay, right);
-    let by_none = answers::differ(answers::refused(7, octets::untouched()), right);
+    let by_none = answers::differ(answers::refused(7, bytes::untouched()), right);
     report::mark(report::SOONER_CAUGHT, by_sooner)
         | report::mark(report::SHORTEST_CAUGHT, by_shortest)
         | report::mark(report::TIES_CAUGHT, by_ties)

@@ -6,7 +6,7 @@ use crate::jobs::Jobs;
 use crate::{jobs, orders};
 
 // What a planner goes by: the two orders, and for the free order two errors that look right.
-#[derive(Drop)]
+#[derive(Clone, Copy)]
 pub enum Rule {
     FreeOrder,
     GivenOrder,

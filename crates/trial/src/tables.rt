@@ -9,7 +9,7 @@ use crate::jobs::{Job, Jobs};
 use table::Table;
 
 // The largest times that the jobs of a table are drawn from, and a set of jobs that are either jobs; of the others half are.
-#[derive(Drop)]
+#[derive(Clone, Copy)]
 struct Style {
     local: u16,
     setup: u16,

@@ -1,0 +1,48 @@
+-- `lines::put_pair` meets its contract: two fields, and the line's end. Assumes nothing.
+use mathlib.Core.List.{List, ◌++◌}
+use Prim.Native.Nat.{ℕ, ◌+◌, ◌≤◌}
+use lib.ListN.{length}
+use Rattle.octets.specs.Decimals.{decimal}
+use Rattle.lines.specs.Lines.{newline}
+use Rattle.octets.proofs.Writing.{room_first, room_next, both}
+use Rattle.lines.proofs.Lines.{pair_parts}
+use Rattle.lines.proofs.put_pair.Goals.{Start}
+use Rattle.lines.proofs.put_pair.Goals as goal
+
+-- the parts of the line, and the room for them
+module _ (c : Start) where
+  abbrev out : List ℕ
+  out = c.args.out.now
+
+  abbrev one : List ℕ
+  one = c.args.first.now ++ decimal c.args.a
+
+  abbrev two : List ℕ
+  two = c.args.second.now ++ decimal c.args.b
+
+  room : c.args.at + length ((one ++ two) ++ newline) ≤ length out
+  room = rw pair_parts at c.requires
+
+  room-two : c.args.at + length (one ++ two) ≤ length out
+  room-two = room_first out c.args.at (one ++ two) newline room
+
+pub put_field-middle-requires : goal.put_field-middle-requires
+put_field-middle-requires c =
+    room_first (out (goal.at.put_field-middle-requires c).Start) c.args.at (one (goal.at.put_field-middle-requires c).Start) (two (goal.at.put_field-middle-requires c).Start) (room-two (goal.at.put_field-middle-requires c).Start)
+
+pub put_field-end-requires : goal.put_field-end-requires
+put_field-end-requires c =
+    room_next (out (goal.at.put_field-end-requires c).Start) c.args.at (one (goal.at.put_field-end-requires c).Start) (two (goal.at.put_field-end-requires c).Start) (room-two (goal.at.put_field-end-requires c).Start) c.put_field-middle.ensures
+
+pub put-requires : goal.put-requires
+put-requires c =
+    room_next (out (goal.at.put-requires c).Start) c.args.at (one (goal.at.put-requires c).Start ++ two (goal.at.put-requires c).Start) newline (room (goal.at.put-requires c).Start)
+    (both (out (goal.at.put-requires c).Start) c.args.at (one (goal.at.put-requires c).Start) (two (goal.at.put-requires c).Start) (room-two (goal.at.put-requires c).Start) c.put_field-middle.ensures
+    c.put_field-end.ensures)
+
+pub returns : goal.returns
+returns c =
+    rw pair_parts
+    (both (out (goal.at.returns c).Start) c.args.at (one (goal.at.returns c).Start ++ two (goal.at.returns c).Start) newline (room (goal.at.returns c).Start)
+    (both (out (goal.at.returns c).Start) c.args.at (one (goal.at.returns c).Start) (two (goal.at.returns c).Start) (room-two (goal.at.returns c).Start) c.put_field-middle.ensures c.put_field-end.ensures)
+    c.put.ensures)

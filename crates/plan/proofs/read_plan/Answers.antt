@@ -1,0 +1,67 @@
+-- `plan::read_plan` meets its contract. The invariant is `SoFar` of crate table: the steps read so far, and that what is still to
+-- do gives the same as the whole. Each way out of a turn is one of its laws; the measure is how many records may still come. Assumes nothing.
+use Prim.Native.Nat.{◌-◌, ◌<◌}
+use native.Mathlib.Omega.{arith}
+use mathlib.Core.Path.{◌≡◌, sym, ap, ◌∙◌}
+use mathlib.Core.List.{[], ◌∷◌, ◌++◌}
+use Rattle.records.specs.Limits.{most_jobs}
+use Rattle.records.specs.Refusals.{start}
+use Rattle.records.specs.Records.{one}
+use Rattle.records.proofs.Listed.{so_far_begin, so_far_refused, so_far_ended, so_far_twice, so_far_more}
+use Rattle.plan.specs.declared.RecordRead.TheVariants.{RecordIs}
+use Rattle.plan.specs.declared.PlanRead.TheVariants.{PlanRefused}
+use Rattle.plan.specs.Plans.{step_parsed, refusal_of, read_plan, plan_read}
+use Rattle.plan.proofs.Steps.{plan_entry, step_read, ended_count}
+use Rattle.plan.proofs.read_plan.Goals.{After-struct_known-1}
+use Rattle.plan.proofs.read_plan.Goals as goal
+
+-- a step was read at the place
+listed :
+    (c : After-struct_known-1) →
+    plan_entry c.args.s.now c.loop-record.p c.loop-record.count ≡ one c.in-Listed.step c.in-Listed.next
+listed c =
+    ap step_parsed
+    (sym c.record_at-answer.ensures ∙
+    (c.in-RecordIs.is ∙ ap RecordIs c.in-Listed.is))
+
+-- where a step was read there is room for it
+room : (c : After-struct_known-1) → c.loop-record.count < most_jobs
+room c = (step_read _ _ _ _ _ (listed c)).0
+
+pub loop-record-init : goal.loop-record-init
+loop-record-init c = record { xs = []; so = rw c.start-p.ensures (so_far_begin _ _ _ start) }
+
+pub returns-in_default : goal.returns-in_default
+unfolding read_plan
+returns-in_default c =
+    ap PlanRefused (c.refusal_of.ensures ∙ ap refusal_of c.in_default.is) ∙
+    ap plan_read
+    (so_far_refused _ _ _ c.loop-record.invariant.so (ap step_parsed (sym c.record_at-answer.ensures ∙ c.in_default.is)))
+
+pub returns-then-seen-id : goal.returns-then-seen-id
+unfolding read_plan
+returns-then-seen-id c =
+    ap plan_read (so_far_twice _ _ _ c.loop-record.invariant.so (listed (goal.at.returns-then-seen-id c).After-struct_known-1) (omega arith) c.if-seen-id.true)
+
+pub overflow_add-count : goal.overflow_add-count
+overflow_add-count c = omega (arith, room (goal.at.overflow_add-count c).After-struct_known-1)
+
+pub loop-record-smaller : goal.loop-record-smaller
+loop-record-smaller c = omega (arith, room (goal.at.loop-record-smaller c).After-struct_known-1)
+
+pub loop-record-preserved : goal.loop-record-preserved
+loop-record-preserved c =
+    record {
+      xs = c.loop-record.invariant.xs ++ (c.in-Listed.step ∷ []);
+      so = so_far_more _ _ _ c.loop-record.invariant.so (listed (goal.at.loop-record-preserved c).After-struct_known-1) (omega arith) (room (goal.at.loop-record-preserved c).After-struct_known-1) c.if-seen-id.false;
+    }
+
+pub returns-in-Last : goal.returns-in-Last
+unfolding read_plan
+returns-in-Last c =
+    let read =
+    ap step_parsed
+    (sym c.record_at-answer.ensures ∙
+    (c.in-RecordIs.is ∙ ap RecordIs c.in-Last.is)) in
+    c.ended_at.ensures ∙
+    rw c.loop-record.invariant.so.counted (ended_count c.args.s.now c.loop-record.invariant.xs c.in-Last.next ∙ ap plan_read (so_far_ended _ _ _ c.loop-record.invariant.so read))
