@@ -1,0 +1,43 @@
+-- `frame_calls::read` meets its contract: each refusal in turn, and then where the job stands. Assumes nothing.
+use mathlib.Core.Path.{sym, ◌∙◌}
+use native.Mathlib.Omega.{arith}
+use borrow.Author.Tests.{not-true, not-false}
+use Rattle.frame_calls.specs.Calls.{read_of}
+use Rattle.frame_record.proofs.Laws.{is_begun, begun_fits, where_below}
+use Rattle.frame_calls.proofs.read.Goals as goal
+
+pub returns-then-not-is_in : goal.returns-then-not-is_in
+unfolding read_of
+returns-then-not-is_in c = simp (is_begun _ _ c.is_in.ensures ∙ not-true _ c.if-not-is_in.true-raw)
+
+pub position_of-found-requires : goal.position_of-found-requires
+position_of-found-requires c = begun_fits _ (is_begun _ _ c.is_in.ensures ∙ not-false _ c.if-not-is_in.false-raw)
+
+pub offset_bounds-f-i : goal.offset_bounds-f-i
+offset_bounds-f-i c =
+    let at = sym c.position_of-found.ensures ∙ c.in-At.is in
+    let begun = is_begun _ _ c.is_in.ensures ∙ not-false _ c.if-not-is_in.false-raw in
+    omega (arith, begun_fits _ begun, where_below _ _ _ at)
+
+pub bounds-f-i : goal.bounds-f-i
+bounds-f-i c =
+    let at = sym c.position_of-found.ensures ∙ c.in-At.is in
+    let begun = is_begun _ _ c.is_in.ensures ∙ not-false _ c.if-not-is_in.false-raw in
+    omega (arith, begun_fits _ begun, where_below _ _ _ at)
+
+pub returns-in-At : goal.returns-in-At
+unfolding read_of
+returns-in-At c =
+    simp (
+      is_begun _ _ c.is_in.ensures ∙ not-false _ c.if-not-is_in.false-raw,
+      sym c.position_of-found.ensures ∙ c.in-At.is,
+      c.reading_of.ensures,
+    )
+
+pub returns-in-Nowhere : goal.returns-in-Nowhere
+unfolding read_of
+returns-in-Nowhere c =
+    simp (
+      is_begun _ _ c.is_in.ensures ∙ not-false _ c.if-not-is_in.false-raw,
+      sym c.position_of-found.ensures ∙ c.in-Nowhere.is,
+    )

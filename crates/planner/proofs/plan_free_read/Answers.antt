@@ -1,0 +1,26 @@
+-- `planner::plan_free_read` meets its contract: ROOM, then the table's refusal, then what the free order finds. Assumes nothing.
+use mathlib.Core.Path.{refl}
+use borrow.Author.Rules.{rules}
+use Rattle.planner.specs.Answers.{no_room, bad_table}
+use Rattle.planner.proofs.Finishing.{refused_read}
+use Rattle.planner.proofs.Orders.{free_few, free_answered}
+use Rattle.planner.proofs.plan_free_read.Goals as goal
+
+pub returns-then-area-lt-LONGEST_PLAN : goal.returns-then-area-lt-LONGEST_PLAN
+returns-then-area-lt-LONGEST_PLAN c = no_room c.if-area-lt-LONGEST_PLAN.true (record { says = refl; left = refl })
+
+pub free_plan-requires : goal.free_plan-requires
+free_plan-requires c = c.requires c.in-Whole.is
+
+pub finish-requires : goal.finish-requires
+finish-requires c = (search rules, free_few c.args.read.table (c.requires c.in-Whole.is) _ c.free_plan.ensures)
+
+pub returns-in-Refused : goal.returns-in-Refused
+returns-in-Refused c =
+    bad_table c.if-area-lt-LONGEST_PLAN.false _ (refused_read c.args.read _ c.in-Refused.is)
+    (record { says = refl; left = refl })
+
+pub returns-in-Whole : goal.returns-in-Whole
+returns-in-Whole c =
+    free_answered c.args.read c.requires c.in-Whole.is _ c.free_plan.ensures _ _ _ c.if-area-lt-LONGEST_PLAN.false
+    c.finish.ensures
