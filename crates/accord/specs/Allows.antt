@@ -10,19 +10,19 @@ use Rattle.planner.specs.declared.Least.{Least}
 use Rattle.planner.proofs as planner
 use Rattle.listing.specs.declared.Listed.{Listed}
 use Rattle.listing.proofs as listing
-use Rattle.faults.specs.Allows.{to}
+use Rattle.faults.specs.Allows.{to, to_mut}
 
 abbrev pub FreeAllows : List ℕ → List ℕ → Planned → List ℕ → Type 0
-FreeAllows s before r after = planner.plan_free.Reads.Learnt ([], ([], tt)) (to s, (to before, tt)) r (to s, (to after, tt))
+FreeAllows s before r after = planner.plan_free.Reads.Learnt ([], ([], tt)) (to s, (to_mut before, tt)) r (to s, (to_mut after, tt))
 
 abbrev pub GivenAllows : List ℕ → List ℕ → Planned → List ℕ → Type 0
-GivenAllows s before r after = planner.plan_given.Reads.Learnt ([], ([], tt)) (to s, (to before, tt)) r (to s, (to after, tt))
+GivenAllows s before r after = planner.plan_given.Reads.Learnt ([], ([], tt)) (to s, (to_mut before, tt)) r (to s, (to_mut after, tt))
 
 abbrev pub LeastAllows : List ℕ → Least → Type 0
 LeastAllows s r = planner.least_deadline.Reads.Learnt ([], tt) (to s, tt) r (to s, tt)
 
 abbrev pub ListAllows : List ℕ → List ℕ → Listed → List ℕ → Type 0
-ListAllows s before r after = listing.list_plan.Reads.Learnt ([], ([], tt)) (to s, (to before, tt)) r (to s, (to after, tt))
+ListAllows s before r after = listing.list_plan.Reads.Learnt ([], ([], tt)) (to s, (to_mut before, tt)) r (to s, (to_mut after, tt))
 
 -- what the planners ask of the table's jobs once they are prepared
 abbrev pub BestAllows : ℕ → Prepared → BestMask → Type 0

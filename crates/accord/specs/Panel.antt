@@ -3,7 +3,7 @@ use Rattle.std.specs.Prelude.{ℕ, List, [], ◌≡◌}
 use Rattle.planner.specs.declared.Planned.{Planned}
 use Rattle.planner.specs.Answers.{planned_says, least_says}
 use Rattle.planner.specs.declared.Least.{Least}
-use Rattle.faults.specs.Allows.{to}
+use Rattle.faults.specs.Allows.{to, to_mut}
 use Rattle.judge.specs.declared.Checked.{Checked}
 use Rattle.judge.specs.Check.{checked_says}
 use Rattle.panel.specs.declared.PlannedNumbers.{PlannedNumbers}
@@ -13,10 +13,10 @@ use Rattle.panel.specs.Numbers.{planned_record, least_record, checked_record}
 use Rattle.panel.proofs as panel
 
 abbrev pub ZbFree : List ℕ → List ℕ → PlannedNumbers → List ℕ → Type 0
-ZbFree s before r after = panel.zb_plan_free.Reads.Learnt ([], ([], tt)) (to s, (to before, tt)) r (to s, (to after, tt))
+ZbFree s before r after = panel.zb_plan_free.Reads.Learnt ([], ([], tt)) (to s, (to_mut before, tt)) r (to s, (to_mut after, tt))
 
 abbrev pub ZbGiven : List ℕ → List ℕ → PlannedNumbers → List ℕ → Type 0
-ZbGiven s before r after = panel.zb_plan_given.Reads.Learnt ([], ([], tt)) (to s, (to before, tt)) r (to s, (to after, tt))
+ZbGiven s before r after = panel.zb_plan_given.Reads.Learnt ([], ([], tt)) (to s, (to_mut before, tt)) r (to s, (to_mut after, tt))
 
 abbrev pub ZbLeast : List ℕ → LeastNumbers → Type 0
 ZbLeast s r = panel.zb_least_deadline.Reads.Learnt ([], tt) (to s, tt) r (to s, tt)

@@ -11,10 +11,10 @@ use Rattle.model.specs.declared.Job.{Job}
 use Rattle.records.specs.declared.refusal.Place.{Place}
 use Rattle.records.specs.declared.refusal.Refusal.{Refusal}
 use Rattle.records.specs.Refusals.{refusal_says, accepted}
-use Rattle.records.specs.Limits.{longest_table}
-use Rattle.table.specs.Tables.{JobTable, sending_bytes, job_bytes}
+use Rattle.records.specs.Limits.{longest_table, largest_time}
+use Rattle.table.specs.Tables.{JobTable, TimesOk, sending_bytes, job_bytes, job_id}
 use Rattle.plan.specs.declared.Step.{Step}
-use Rattle.faults.specs.Faults.{joined, behind, Unread, no_byte, not_allowed, cut, Faulty, unread, many, range, twice, after, ListFault, fault}
+use Rattle.faults.specs.Faults.{ListFault, row_kinds, joined, behind, Unread, no_byte, not_allowed, cut, Faulty, unread, many, range, twice, after, fault}
 use Rattle.faults.specs.Faults.{TableFault, in_frame, deadline, in_row, frame_bytes, PlanFault, TableIs, FaultAt}
 use Rattle.faults.proofs.Files.{joined_map, behind_more}
 use Rattle.faults.proofs.Tables.{table_flat}
@@ -67,14 +67,20 @@ jobs_length [] = omega arith
 jobs_length (j ∷ js) =
     omega (arith, length-append (job_bytes j) (flat_map job_bytes js), sending_length j.id j.local j.sending, jobs_length js)
 
+row_near :
+    (D : ℕ) {s : List ℕ} {f : Refusal} → ListFault job_id job_bytes (TimesOk largest_time) row_kinds 0x1F (frame_bytes D ∷ []) s f →
+    FaultAt longest_table (refusal_says f)
+unfolding flat_map
+row_near D (fault js rest good y) =
+    let size = ap length (joined_map job_bytes (frame_bytes D ∷ []) js) in
+    let few = good.few in
+    faulty_placed y longest_table (omega (arith, jobs_length js)) (λ k. omega (arith, jobs_length js))
+
 pub table_near : {s : List ℕ} {f : Refusal} → TableFault s f → FaultAt longest_table (refusal_says f)
 unfolding flat_map
 table_near (in_frame u) = unread_placed u longest_table (omega arith)
 table_near (deadline D more out) = record { number = 3; place = 0; says = refl; low = omega arith; high = omega arith; within = omega arith }
-table_near (in_row D ok (fault js rest good y)) =
-    let size = ap length (joined_map job_bytes (frame_bytes D ∷ []) js) in
-    let few = good.few in
-    faulty_placed y longest_table (omega (arith, jobs_length js)) (λ k. omega (arith, jobs_length js))
+table_near (in_row D ok y) = row_near D y
 
 -- and an accepted table has at most 260 bytes
 pub table_short : {s : List ℕ} {t : JobTable} → TableIs s (accepted t) → length s ≤ longest_table

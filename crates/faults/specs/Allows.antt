@@ -2,7 +2,7 @@
 -- Assumes nothing.
 use Rattle.std.specs.Prelude.{ℕ, List, []}
 use contract.Lifetimes.{Lfts}
-use Rattle.std.specs.Borrow.{Bor}
+use Rattle.std.specs.Borrow.{Bor, MutBor}
 use denote.Triple.Entry.{Args, Res}
 use denote.Triple.Clauses.{Ended, AtExit}
 use Rattle.table.specs.declared.TableRead.{TableRead}
@@ -16,9 +16,12 @@ use Rattle.judge.proofs as judge
 abbrev pub Tells : Ended → Type 1
 Tells T = (κs : Lfts T.signature.lifetimes) → Args T.signature κs → Res T.signature κs → AtExit T κs → Type 0
 
--- a reference to this; where it lies, and for how long, no contract speaks of
+-- a reference to this, `&` and `&mut`; where it lies, and for how long, no contract speaks of
 abbrev pub to : {A : Type 0} → A → Bor A
 to x = record { ref_ptr = (0, 0); now = x }
+
+abbrev pub to_mut : {A : Type 0} → A → MutBor A
+to_mut x = record { ref_ptr = (0, 0); ghost_name = 0; now = x }
 
 abbrev pub TableAllows : List ℕ → TableRead → Type 0
 TableAllows s r = table.read_table.Reads.Learnt ([], tt) (to s, tt) r (to s, tt)

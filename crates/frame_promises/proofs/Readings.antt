@@ -43,6 +43,7 @@ has_job (x ∷ js) id j e = step (eqb x.id id) refl e (has_job js id j)
 
 job_has : (js : List Job) (id : ℕ) (j : Job) → Memᴰ j js → j.id ≡ id → (i : Job) × (job_of js id ≡ some i)
 unfolding with_key
+job_has [] id j m is = elim m [ ]
 job_has (x ∷ js) id j (Memᴰ.head e) is = (x, rw (eq-eqb x.id id (ap (λ (y : Job). y.id) (sym e) ∙ is)))
 job_has (x ∷ js) id j (Memᴰ.tail m) is = step (eqb x.id id) (job_has js id j m is)
   where

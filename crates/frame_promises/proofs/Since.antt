@@ -251,6 +251,7 @@ return_accepted b n id t v a =
 one_step :
     (xs : List plan.Step) → Pairwise (λ (x y : plan.Step). ¬ (x.id ≡ y.id)) xs → {x y : plan.Step} → Memᴰ x xs → Memᴰ y xs →
     x.id ≡ y.id → x ≡ y
+one_step [] d {y = y} m _ e = elim m [ ]
 one_step (z ∷ zs) d (Memᴰ.head p) (Memᴰ.head q) e = p ∙ sym q
 one_step (z ∷ zs) d (Memᴰ.head p) (Memᴰ.tail n) e = absurd (member_all _ d.0 n (sym (ap step_id p) ∙ e))
 one_step (z ∷ zs) d (Memᴰ.tail m) (Memᴰ.head q) e = absurd (member_all _ d.0 m (sym (ap step_id q) ∙ sym e))

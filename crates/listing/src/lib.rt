@@ -107,8 +107,8 @@ fn put_plan(out: &mut [u8], t: Table, draft: Draft) -> usize
 
 // The plan that was found, or NONE.
 fn put_made(out: &mut [u8], t: Table, made: Drafted) -> usize
-    requires count_le_most_jobs { (made.draft.plan.count ≤ most_jobs) × (t.count ≤ most_jobs) × (length (made_text t made) ≤ length out.old) }
-    requires refused_room_in_bounds { refused_room ≤ length out.old }
+    requires made_fits { (made.draft.plan.count ≤ most_jobs) × (t.count ≤ most_jobs) × (length (made_text t made) ≤ length out.old) }
+    requires refused_fits { refused_room ≤ length out.old }
     ensures { Wrote out.old 0 (made_text t made) out.new result }
 {
     let draft = made.draft;

@@ -1,0 +1,55 @@
+-- `listing::put_plan` meets its contract: the first line, the job lines and the last line, one after the other.
+-- Assumes nothing.
+use mathlib.Core.List.{List, ◌++◌}
+use Prim.Native.Nat.{ℕ, ◌+◌, ◌≤◌}
+use native.Mathlib.Omega.{arith}
+use lib.ListN.{length}
+use Rattle.octets.specs.Writing.{Wrote}
+use Rattle.listing.specs.Listing.{first_line, last_line}
+use Rattle.listing.specs.Found.{step_lines, draft_text}
+use Rattle.octets.proofs.Writing.{room_first, room_next, both}
+use borrow.Author.Rules.{rules}
+use Rattle.listing.proofs.put_plan.Goals.{Start}
+use Rattle.listing.proofs.put_plan.Goals as goal
+
+-- the three parts, and the room for them
+module _ (c : Start) where
+  abbrev out : List ℕ
+  out = c.args.out.now
+
+  abbrev one : List ℕ
+  one = first_line c.args.t.deadline c.args.t.count
+
+  abbrev two : List ℕ
+  two = step_lines c.args.t c.args.draft.plan
+
+  abbrev three : List ℕ
+  three = last_line c.args.draft.laid.busy c.args.draft.laid.last
+
+  room : 0 + length ((one ++ two) ++ three) ≤ length out
+  unfolding draft_text
+  room = omega (arith, c.requires.2)
+
+  room-two : 0 + length (one ++ two) ≤ length out
+  room-two = room_first out 0 (one ++ two) three room
+
+  -- the first line and the job lines, one after the other
+  front : {a b : List ℕ} {p q : ℕ} → Wrote out 0 one a p → Wrote a p two b q → Wrote out 0 (one ++ two) b q
+  front = both out 0 one two room-two
+
+pub put_pair-a-requires : goal.put_pair-a-requires
+put_pair-a-requires c =
+    room_first (out (goal.at.put_pair-a-requires c).Start) 0 (one (goal.at.put_pair-a-requires c).Start) (two (goal.at.put_pair-a-requires c).Start) (room-two (goal.at.put_pair-a-requires c).Start)
+
+pub put_lines-b-requires : goal.put_lines-b-requires
+put_lines-b-requires c =
+    (search rules, search rules, room_next (out (goal.at.put_lines-b-requires c).Start) 0 (one (goal.at.put_lines-b-requires c).Start) (two (goal.at.put_lines-b-requires c).Start) (room-two (goal.at.put_lines-b-requires c).Start) c.put_pair-a.ensures)
+
+pub put_pair-requires : goal.put_pair-requires
+put_pair-requires c =
+    room_next (out (goal.at.put_pair-requires c).Start) 0 (one (goal.at.put_pair-requires c).Start ++ two (goal.at.put_pair-requires c).Start) (three (goal.at.put_pair-requires c).Start) (room (goal.at.put_pair-requires c).Start) (front (goal.at.put_pair-requires c).Start c.put_pair-a.ensures c.put_lines-b.ensures)
+
+pub returns : goal.returns
+unfolding draft_text
+returns c =
+    both (out (goal.at.returns c).Start) 0 (one (goal.at.returns c).Start ++ two (goal.at.returns c).Start) (three (goal.at.returns c).Start) (room (goal.at.returns c).Start) (front (goal.at.returns c).Start c.put_pair-a.ensures c.put_lines-b.ensures) c.put_pair.ensures
