@@ -6,7 +6,7 @@ use mathlib.Core.Path.{◌≡◌, refl, sym, ap, ◌∙◌}
 use mathlib.Core.List.{List, [], ◌++◌}
 use lib.ListN.{length, take, drop, length-drop}
 use lib.Seq.{take_at, drop-drop}
-use denote.Ref.{Bor}
+use Rattle.std.specs.Borrow.{Bor, MutBor}
 use borrow.Author.Tests.{eq-eqb, ne_eqb}
 use Rattle.octets.proofs.Writing.{written_front}
 use Rattle.octets.specs.Writing.{Wrote}
@@ -19,13 +19,16 @@ use Rattle.replaying.specs.Lines.{line_of, text_from, replay_text, TurnAt}
 use Rattle.replaying.proofs.Turns.{rest, rest_all, nothing, unrolled, turn_some}
 use Rattle.replaying.proofs.next_line.Reads as next_line
 
--- a reference to this; where it lies, and for how long, no contract speaks of
+-- a reference to this, `&` and `&mut`; where it lies, and for how long, no contract speaks of
 abbrev to : {A : Type 0} → A → Bor A
 to x = record { ref_ptr = (0, 0); now = x }
 
+abbrev to_mut : {A : Type 0} → A → MutBor A
+to_mut x = record { ref_ptr = (0, 0); ghost_name = 0; now = x }
+
 -- what the contract allows at a place of the log
 abbrev pub Allows : Frame → ℕ → List ℕ → List ℕ → Turn → List ℕ → Type 0
-Allows f at s before r area = next_line.Learnt ([], ([], tt)) (f, (at, (to s, (to before, tt)))) r (f, (at, (to s, (to area, tt))))
+Allows f at s before r area = next_line.Learnt ([], ([], tt)) (f, (at, (to s, (to_mut before, tt)))) r (f, (at, (to s, (to_mut area, tt))))
 
 -- turns up to the log's end, with the text that they hand out and the frame's record that they end with
 pub data Run (log : List ℕ) : Frame → ℕ → List ℕ → Frame → Type 0 where

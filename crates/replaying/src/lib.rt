@@ -3,7 +3,7 @@
 // No contract can speak of standard output: that a line's bytes go there, one line after the other, stands in `print_line` and `replay` alone.
 #![tactic(auto)]
 
-ghost use Rattle.std.specs.Prelude.{◌≡◌, ◌+◌, ◌≤◌, length};
+ghost use Rattle.std.specs.Prelude.{◌≡◌, ◌+◌, ◌≤◌, length, IfOk};
 ghost use Rattle.std.specs.Float.Ieee.{to_bits};
 ghost use Rattle.std.specs.Float.{binary32};
 ghost use Rattle.octets.specs.Writing.{Wrote};
@@ -15,6 +15,7 @@ ghost use Rattle.replaying.specs.Lines.{Shows, TurnAt, Moved};
 
 use frame_log::{CallKind, EventKind, RecordRead};
 use frame_record::{Answer, Frame, Reading, Sample};
+use std::io;
 
 // What one turn leaves: the frame's record, how many bytes of the log it took, and how many its line has.
 #[derive(Clone, Copy)]
@@ -153,28 +154,28 @@ fn next_line(frame: Frame, at: usize, s: &[u8], out: &mut [u8]) -> Turn
 }
 
 // Makes one turn and writes its line to standard output in one piece.
-fn print_line(frame: Frame, at: usize, s: &[u8]) -> Turn
-    ensures { Moved frame s.now result }
+fn print_line(rt: &impl Print, frame: Frame, at: usize, s: &[u8]) -> io::Result<Turn>
+    ensures { IfOk result (λ turn. Moved frame s.now turn) }
 {
     let mut out = [0u8; 64];
     let turn = next_line(frame, at, s, &mut out);
     let size = turn.size;
-    io::write_all(1, &out[..size]);
-    turn
+    rt.write_all(&out[..size])?;
+    Ok(turn)
 }
 
 // Makes the calls of a log from idle and writes a line for each, up to a record of unknown kind or with its body cut.
-// Returns the frame's record afterwards.
-pub fn replay(log: &[u8]) -> Frame
-    ensures { result ≡ replayed log.now }
+// Returns the frame's record afterwards; the only error is that of a line that could not be written.
+pub fn replay(rt: &impl Print, log: &[u8]) -> io::Result<Frame>
+    ensures { IfOk result (λ frame. frame ≡ replayed log.now) }
 {
     let mut frame = Frame::idle();
     let mut at = 0;
     while at < log.len() {
         let rest = &log[at..];
-        let turn = print_line(frame, at, rest);
+        let turn = print_line(rt, frame, at, rest)?;
         frame = turn.frame;
         at += turn.gone;
     }
-    frame
+    Ok(frame)
 }

@@ -5,6 +5,7 @@
 
 use frame_record::{Answer, Event, Frame, Reading, Sample};
 use records::refusal::Refusal;
+use std::io;
 
 const FRAMES: u32 = 100000;
 
@@ -52,7 +53,7 @@ impl Counts {
     // With one more at a place; the shift is far too short for a count to wrap.
     fn with(mut self, place: usize) -> Counts {
         let k = place % 16;
-        self.at[k] = std::num::wrapping_add_u64(self.at[k], 1);
+        self.at[k] = self.at[k].wrapping_add(1);
         self
     }
 
@@ -64,7 +65,7 @@ impl Counts {
 
 // A job's value in a frame: no other job has it, nor the same job in another frame.
 fn value_of(number: u32, id: u8) -> f32 {
-    std::num::nearest_u32_to_f32(4 * (number % 1000000) + id as u32)
+    (4 * (number % 1000000) + id as u32) as f32
 }
 
 fn is_own(sample: Sample, number: u32, id: u8) -> bool {
@@ -215,25 +216,23 @@ fn read(before: Played, number: u32) -> Played {
     Played { frame, counts }
 }
 
-fn line(words: &[u8], count: u64) {
-    io::write_all(1, words);
-    io::print_decimal(1, count);
-    io::write_all(1, b"\n");
+fn line(rt: &impl Print, words: &str, count: u64) -> io::Result<()> {
+    println!(rt; "{words}{count}")
 }
 
-fn print(counts: Counts) {
-    line(b"frames begun ", counts.of(BEGUN));
-    line(b"calls made ", counts.of(CALLS));
-    line(b"fresh readings ", counts.of(FRESH));
-    line(b"late readings ", counts.of(LATE));
-    line(b"missing ", counts.of(MISSING));
-    line(b"old answers refused with 13: ", counts.of(OLD_REFUSED));
-    line(b"other refusals ", counts.of(OTHER_REFUSED));
-    line(b"pending after the close ", counts.of(PENDING));
-    line(b"stale readings ", counts.of(STALE));
+fn print(rt: &impl Print, counts: Counts) -> io::Result<()> {
+    line(rt, "frames begun ", counts.of(BEGUN))?;
+    line(rt, "calls made ", counts.of(CALLS))?;
+    line(rt, "fresh readings ", counts.of(FRESH))?;
+    line(rt, "late readings ", counts.of(LATE))?;
+    line(rt, "missing ", counts.of(MISSING))?;
+    line(rt, "old answers refused with 13: ", counts.of(OLD_REFUSED))?;
+    line(rt, "other refusals ", counts.of(OTHER_REFUSED))?;
+    line(rt, "pending after the close ", counts.of(PENDING))?;
+    line(rt, "stale readings ", counts.of(STALE))
 }
 
-fn main() {
+fn main(rt: HostRuntime) -> io::Result<()> {
     let frame = Frame::idle();
     let counts = Counts::none();
     let mut shift = Played { frame, counts };
@@ -243,5 +242,5 @@ fn main() {
         shift = read(run(begun(shift, number), number), number);
         k += 1;
     }
-    print(shift.counts);
+    print(&rt, shift.counts)
 }

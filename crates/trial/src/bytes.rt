@@ -1,7 +1,6 @@
 // Bytes at the front of an area: a table that is being written, or a plan in the area that a planner is lent.
 // The area is longer than the longest plan, so that a byte written behind a plan shows.
-ghost use Rattle.std.specs.Prelude.{◌≤◌};
-ghost use Rattle.io.specs.Counts.{IsPrefixLen};
+ghost use Rattle.std.specs.Prelude.{◌≡◌, ◌≤◌, length, take};
 
 pub const AREA: usize = 72;
 
@@ -43,7 +42,7 @@ impl Bytes {
 
     // How many bytes stand there.
     pub fn length(self) -> usize
-        ensures { (result ≤ 72) × IsPrefixLen result self.area }
+        ensures { (result ≤ 72) × ((result ≤ length self.area) × (result ≡ length (take result self.area))) }
     {
         let n = self.count;
         if n < AREA { n } else { AREA }

@@ -14,9 +14,10 @@ mod tables; // tables.rt: the tables, from fixed numbers
 ghost use Rattle.std.specs.Prelude.{◌≤◌};
 
 use answers::{Answer, Best};
-use jobs::Jobs;
 use bytes::Bytes;
+use jobs::Jobs;
 use search::Rule;
+use std::io;
 use table::Table;
 
 const TABLES: u64 = 4000;
@@ -131,7 +132,7 @@ fn tried(number: u64) -> u64 {
 }
 
 // Tries all tables, and prints the report.
-fn main() {
+fn main(rt: HostRuntime) -> io::Result<()> {
     let mut counts = [0; 32];
     let mut number = 0;
     while number < TABLES {
@@ -139,5 +140,5 @@ fn main() {
         counts = sums;
         number += 1;
     }
-    report::print(counts);
+    report::print(&rt, counts)
 }

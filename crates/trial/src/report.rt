@@ -1,6 +1,8 @@
 // What is found of a table, as bits; how often each was found over all tables; and the report.
 // A finding's number is its place in the report, in which `#` stands for a count.
 
+use std::io;
+
 // A table, and from 1 on a table of 0 to 6 jobs.
 pub const TABLE: usize = 0;
 
@@ -55,31 +57,33 @@ pub fn counted(counts: [u64; 32], found: u64) -> [u64; 32] {
     let mut sums = counts;
     let mut k = 0;
     while k < 32 {
-        sums[k] = std::num::wrapping_add_u64(sums[k], (found >> k) % 2);
+        sums[k] = sums[k].wrapping_add((found >> k) % 2);
         k += 1;
     }
     sums
 }
 
 // Prints a text with the counts in place of its `#`.
-fn print_text(text: &[u8], counts: [u64; 32]) {
+fn print_text(rt: &impl Print, text: &[u8], counts: [u64; 32]) -> io::Result<()> {
     let mut finding = 0;
     let mut k = 0;
     while k < text.len() {
         let byte = [text[k]];
         if byte[0] == b'#' {
-            io::print_decimal(1, counts[finding % 32]);
+            print!(rt; "{}", counts[finding % 32])?;
             finding += 1;
         } else {
-            io::write_all(1, &byte);
+            rt.write_all(&byte)?;
         }
         k += 1;
     }
+    Ok(())
 }
 
 // Prints the report.
-pub fn print(counts: [u64; 32]) {
+pub fn print(rt: &impl Print, counts: [u64; 32]) -> io::Result<()> {
     print_text(
+        rt,
         b"tables #
   of 0 jobs #
   of 1 job #
@@ -110,5 +114,5 @@ tables that catch ties settled the other way: #
 tables that catch NONE to all: #
 ",
         counts,
-    );
+    )
 }
