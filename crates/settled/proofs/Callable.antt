@@ -1,92 +1,111 @@
 -- "No public entry point has a `requires`", as a statement: every function over bytes, every call of the runner and every C function may be called with
 -- all inputs. A `requires` that asked something would fail here. Assumes nothing.
 use Rattle.table.proofs as table
+use Rattle.table.specs.contracts as table_contracts
 use Rattle.plan.proofs as plan
+use Rattle.plan.specs.contracts as plan_contracts
 use Rattle.planner.proofs as planner
+use Rattle.planner.specs.contracts as planner_contracts
 use Rattle.judge.proofs as judge
+use Rattle.judge.specs.contracts as judge_contracts
 use Rattle.frame_record.proofs as frame_record
+use Rattle.frame_record.specs.contracts as frame_record_contracts
 use Rattle.frame_begin.proofs as frame_begin
+use Rattle.frame_begin.specs.contracts as frame_begin_contracts
 use Rattle.frame_reports.proofs as frame_reports
+use Rattle.frame_reports.specs.contracts as frame_reports_contracts
 use Rattle.frame_calls.proofs as frame_calls
+use Rattle.frame_calls.specs.contracts as frame_calls_contracts
 use Rattle.listing.proofs as listing
+use Rattle.listing.specs.contracts as listing_contracts
 use Rattle.replaying.proofs as replaying
+use Rattle.replaying.specs.contracts as replaying_contracts
 use Rattle.panel.proofs as panel
-use Rattle.settled.specs.Settled.{AsksNothing}
+use Rattle.panel.specs.contracts as panel_contracts
+use Rattle.settled.specs.Settled.{AsksNothing, AsksOnly}
+use Prim.Native.Nat.{ℕ}
+use mathlib.Core.List.{Mem}
+use Rattle.std.specs.declared.io.Print
+use denote.RattleType.{RattleType}
+use denote.Param.Laws.{Laws}
+use mir.Syntax.{Dict}
 
-pub read_table : AsksNothing table.read_table.ended table.read_table.Reads.Pre
+pub read_table : AsksNothing table_contracts.read_table.ended table.read_table.Reads.Pre
 read_table κs i = tt
 
-pub table_empty : AsksNothing table.Table.empty.ended table.Table.empty.Reads.Pre
+pub table_empty : AsksNothing table_contracts.Table.empty.ended table.Table.empty.Reads.Pre
 table_empty κs i = tt
 
-pub read_plan_lem : AsksNothing plan.read_plan.ended plan.read_plan.Reads.Pre
+pub read_plan_lem : AsksNothing plan_contracts.read_plan.ended plan.read_plan.Reads.Pre
 read_plan_lem κs i = tt
 
-pub step_at_lem : AsksNothing plan.step_at.ended plan.step_at.Reads.Pre
+pub step_at_lem : AsksNothing plan_contracts.step_at.ended plan.step_at.Reads.Pre
 step_at_lem κs i = tt
 
-pub plan_free : AsksNothing planner.plan_free.ended planner.plan_free.Reads.Pre
+pub plan_free : AsksNothing planner_contracts.plan_free.ended planner.plan_free.Reads.Pre
 plan_free κs i = tt
 
-pub plan_given : AsksNothing planner.plan_given.ended planner.plan_given.Reads.Pre
+pub plan_given : AsksNothing planner_contracts.plan_given.ended planner.plan_given.Reads.Pre
 plan_given κs i = tt
 
-pub least_deadline : AsksNothing planner.least_deadline.ended planner.least_deadline.Reads.Pre
+pub least_deadline : AsksNothing planner_contracts.least_deadline.ended planner.least_deadline.Reads.Pre
 least_deadline κs i = tt
 
-pub check_plan : AsksNothing judge.check_plan.ended judge.check_plan.Reads.Pre
+pub check_plan : AsksNothing judge_contracts.check_plan.ended judge.check_plan.Reads.Pre
 check_plan κs i = tt
 
-pub finite : AsksNothing frame_record.finite.ended frame_record.finite.Reads.Pre
+pub finite : AsksNothing frame_record_contracts.finite.ended frame_record.finite.Reads.Pre
 finite κs i = tt
 
-pub idle : AsksNothing frame_record.Frame.idle.ended frame_record.Frame.idle.Reads.Pre
+pub idle : AsksNothing frame_record_contracts.Frame.idle.ended frame_record.Frame.idle.Reads.Pre
 idle κs i = tt
 
-pub sound : AsksNothing frame_record.Frame.sound.ended frame_record.Frame.sound.Reads.Pre
+pub sound : AsksNothing frame_record_contracts.Frame.sound.ended frame_record.Frame.sound.Reads.Pre
 sound κs i = tt
 
-pub is_in : AsksNothing frame_record.Frame.is_in.ended frame_record.Frame.is_in.Reads.Pre
+pub is_in : AsksNothing frame_record_contracts.Frame.is_in.ended frame_record.Frame.is_in.Reads.Pre
 is_in κs i = tt
 
-pub refuse : AsksNothing frame_record.Frame.refuse.ended frame_record.Frame.refuse.Reads.Pre
+pub refuse : AsksNothing frame_record_contracts.Frame.refuse.ended frame_record.Frame.refuse.Reads.Pre
 refuse κs i = tt
 
-pub begin : AsksNothing frame_begin.begin.ended frame_begin.begin.Reads.Pre
+pub begin : AsksNothing frame_begin_contracts.begin.ended frame_begin.begin.Reads.Pre
 begin κs i = tt
 
-pub step : AsksNothing frame_calls.step.ended frame_calls.step.Reads.Pre
+pub step : AsksNothing frame_calls_contracts.step.ended frame_calls.step.Reads.Pre
 step κs i = tt
 
-pub panel_job : AsksNothing frame_calls.panel_job.ended frame_calls.panel_job.Reads.Pre
+pub panel_job : AsksNothing frame_calls_contracts.panel_job.ended frame_calls.panel_job.Reads.Pre
 panel_job κs i = tt
 
-pub span_end : AsksNothing frame_reports.span_end.ended frame_reports.span_end.Reads.Pre
+pub span_end : AsksNothing frame_reports_contracts.span_end.ended frame_reports.span_end.Reads.Pre
 span_end κs i = tt
 
-pub give_back : AsksNothing frame_reports.give_back.ended frame_reports.give_back.Reads.Pre
+pub give_back : AsksNothing frame_reports_contracts.give_back.ended frame_reports.give_back.Reads.Pre
 give_back κs i = tt
 
-pub close : AsksNothing frame_calls.close.ended frame_calls.close.Reads.Pre
+pub close : AsksNothing frame_calls_contracts.close.ended frame_calls.close.Reads.Pre
 close κs i = tt
 
-pub read : AsksNothing frame_calls.read.ended frame_calls.read.Reads.Pre
+pub read : AsksNothing frame_calls_contracts.read.ended frame_calls.read.Reads.Pre
 read κs i = tt
 
-pub list_plan : AsksNothing listing.list_plan.ended listing.list_plan.Reads.Pre
+pub list_plan : AsksNothing listing_contracts.list_plan.ended listing.list_plan.Reads.Pre
 list_plan κs i = tt
 
-pub replay : AsksNothing replaying.replay.ended replaying.replay.Reads.Pre
-replay κs i = tt
+module _ (T : RattleType) (L : Laws T) (P : Print.Ghosts T.Denot) (d : Dict) where
+  -- whatever it prints to, as long as that lives, which its type says
+  pub replay : AsksOnly (replaying_contracts.replay.ended T P d) (λ κs i. (a : ℕ) → Mem a T.lives → Mem a κs.1.1.0) (replaying.replay.Reads.Pre T L P d)
+  replay κs i lives = lives
 
-pub zb_plan_free : AsksNothing panel.zb_plan_free.ended panel.zb_plan_free.Reads.Pre
+pub zb_plan_free : AsksNothing panel_contracts.zb_plan_free.ended panel.zb_plan_free.Reads.Pre
 zb_plan_free κs i = tt
 
-pub zb_plan_given : AsksNothing panel.zb_plan_given.ended panel.zb_plan_given.Reads.Pre
+pub zb_plan_given : AsksNothing panel_contracts.zb_plan_given.ended panel.zb_plan_given.Reads.Pre
 zb_plan_given κs i = tt
 
-pub zb_least_deadline : AsksNothing panel.zb_least_deadline.ended panel.zb_least_deadline.Reads.Pre
+pub zb_least_deadline : AsksNothing panel_contracts.zb_least_deadline.ended panel.zb_least_deadline.Reads.Pre
 zb_least_deadline κs i = tt
 
-pub zb_check_plan : AsksNothing panel.zb_check_plan.ended panel.zb_check_plan.Reads.Pre
+pub zb_check_plan : AsksNothing panel_contracts.zb_check_plan.ended panel.zb_check_plan.Reads.Pre
 zb_check_plan κs i = tt

@@ -14,12 +14,13 @@ use Rattle.planner.specs.declared.Planned.{Planned}
 use Rattle.planner.specs.declared.Least.{Least}
 use Rattle.planner.specs.Answers as A
 use Rattle.planner.specs.Answers.{PlanAnswer, planned_says, least_says}
-use Rattle.faults.specs.Allows.{to}
+use Rattle.faults.specs.Allows.{to, to_mut}
 use Rattle.panel.specs.declared.PlannedNumbers.{PlannedNumbers}
 use Rattle.panel.specs.declared.LeastNumbers.{LeastNumbers}
 use Rattle.panel.specs.declared.CheckedNumbers.{CheckedNumbers}
 use Rattle.panel.specs.Numbers.{planned_record, least_record, checked_record}
 use Rattle.panel.proofs as panel
+use Rattle.panel.specs.contracts as panel_contracts
 use Rattle.marked.specs.Marked.{E, plan_e}
 use Rattle.marked.proofs.Cases as case
 use Rattle.marked.proofs.Checks.{passes_45, late_44}
@@ -36,7 +37,7 @@ module _ (CanMeet : JobTable → Type 0) (IsPlan : JobTable → List Chosen → 
   said_bad p (A.planned w t e xs q h) = clash (cc)
 
 abbrev PlanNot : List ℕ → PlannedNumbers → Type 0
-PlanNot s r = RulesOut panel.zb_plan_free.ended panel.zb_plan_free.Reads.Learnt ([], ([], tt)) (to s, (to blank, tt)) r
+PlanNot s r = RulesOut panel_contracts.zb_plan_free.ended panel.zb_plan_free.Reads.Learnt ([], ([], tt)) (to s, (to_mut blank, tt)) r
 
 abbrev planned : ℕ → ℕ → ℕ → ℕ → ℕ → PlannedNumbers
 planned number place length busy last = record { number = number; place = place; length = length; busy = busy; last = last }
@@ -61,7 +62,7 @@ zb_plan_free = (
 
 -- E's busy total and last finish exchanged, in the given order too; its least deadline one too high, or in the place's stead
 abbrev GivenNot : List ℕ → PlannedNumbers → Type 0
-GivenNot s r = RulesOut panel.zb_plan_given.ended panel.zb_plan_given.Reads.Learnt ([], ([], tt)) (to s, (to blank, tt)) r
+GivenNot s r = RulesOut panel_contracts.zb_plan_given.ended panel.zb_plan_given.Reads.Learnt ([], ([], tt)) (to s, (to_mut blank, tt)) r
 
 pub zb_plan_given : GivenNot E (planned 0 0 7 45 40) × GivenNot [] (planned 0 0 0 0 0)
 unfolding read_table frame_at judged
@@ -77,7 +78,7 @@ zb_plan_given = (
 )
 
 abbrev LeastNot : LeastNumbers → Type 0
-LeastNot r = RulesOut panel.zb_least_deadline.ended panel.zb_least_deadline.Reads.Learnt ([], tt) (to E, tt) r
+LeastNot r = RulesOut panel_contracts.zb_least_deadline.ended panel.zb_least_deadline.Reads.Learnt ([], tt) (to E, tt) r
 
 pub zb_least_deadline : LeastNot (record { number = 0; place = 0; deadline = 46 }) × LeastNot (record { number = 0; place = 45; deadline = 45 })
 zb_least_deadline = (
@@ -94,7 +95,7 @@ zb_least_deadline = (
 
 -- LATE that reads as a pass; last finish and busy total exchanged
 abbrev CheckNot : List ℕ → CheckedNumbers → Type 0
-CheckNot s r = RulesOut panel.zb_check_plan.ended panel.zb_check_plan.Reads.Learnt ([], ([], tt)) (to s, (to plan_e, tt)) r
+CheckNot s r = RulesOut panel_contracts.zb_check_plan.ended panel.zb_check_plan.Reads.Learnt ([], ([], tt)) (to s, (to plan_e, tt)) r
 
 pub zb_check_plan :
     CheckNot bytes44 (record { number = 0; place = 0; last = 0; busy = 0 }) × CheckNot E (record { number = 0; place = 0; last = 40; busy = 45 })

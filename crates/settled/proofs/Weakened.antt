@@ -13,7 +13,8 @@ use Rattle.records.specs.declared.refusal.Refusal.TheVariants.{Late, Phase}
 use Rattle.judge.specs.declared.Checked.TheVariants.{Fails}
 use Rattle.judge.specs.Check.{check_plan}
 use Rattle.judge.proofs as judge
-use Rattle.faults.specs.Allows.{Tells, to}
+use Rattle.judge.specs.contracts as judge_contracts
+use Rattle.faults.specs.Allows.{Tells, to, to_mut}
 use Rattle.frame_record.specs.declared.Frame.{Frame}
 use Rattle.frame_record.specs.declared.Answer.TheVariants.{Refused}
 use Rattle.frame_record.specs.declared.Event.TheVariants.{Next}
@@ -21,22 +22,23 @@ use Rattle.frame_record.specs.Sound.{sound?, open?}
 use Rattle.frame_record.specs.Answers.{idle}
 use Rattle.frame_calls.specs.Calls.{next_of}
 use Rattle.frame_lent.proofs as frame_lent
+use Rattle.frame_lent.specs.contracts as frame_lent_contracts
 use Rattle.settled.specs.Settled.{Settles}
 use Rattle.frame_promises.specs.Lent.{CallIn}
 
 -- the check, with LATE allowed for all
-abbrev OrLate : Tells judge.check_plan.ended
+abbrev OrLate : Tells judge_contracts.check_plan.ended
 OrLate κs i r e = judge.check_plan.Reads.Learnt κs i r e ⊎ (r ≡ Fails Late)
 
-pub second_answer : ¬ (Settles judge.check_plan.ended OrLate)
+pub second_answer : ¬ (Settles judge_contracts.check_plan.ended OrLate)
 unfolding check_plan read_table frame_at judged
 second_answer settles =
     let both = settles ([], ([], tt)) (to [], (to [], tt)) (check_plan [] []) (Fails Late) (tt, (tt, tt)) (tt, (tt, tt)) (inl refl) (inr refl) in
     clash (cc both.0)
 
 -- a call whose answer is right for some record afterwards, whatever record is left
-abbrev Silent : Tells frame_lent.call_in.ended
-Silent κs i r e = (m : Lasts frame_lent.call_in.ended κs i) × CallIn κs i r (at_exit frame_lent.call_in.ended κs i m)
+abbrev Silent : Tells frame_lent_contracts.call_in.ended
+Silent κs i r e = (m : Lasts frame_lent_contracts.call_in.ended κs i) × CallIn κs i r (at_exit frame_lent_contracts.call_in.ended κs i m)
 
 abbrev other : Frame
 other = record {
@@ -50,11 +52,11 @@ other = record {
   entries = idle.entries;
 }
 
-pub silent_record : ¬ (Settles frame_lent.call_in.ended Silent)
+pub silent_record : ¬ (Settles frame_lent_contracts.call_in.ended Silent)
 unfolding next_of open? sound?
 silent_record settles =
     let both =
-    settles ([], tt) (to idle, (Next, tt)) (Refused Phase) (Refused Phase) (idle, (tt, tt)) (other, (tt, tt))
+    settles ([], tt) (to_mut idle, (Next, tt)) (Refused Phase) (Refused Phase) (idle, (tt, tt)) (other, (tt, tt))
     ((idle, (tt, tt)), refl) ((idle, (tt, tt)), refl) in
-    let z : ◌≡◌ {A = ℕ} 0 1 = ap (λ (m : Lasts frame_lent.call_in.ended ([], tt) (to idle, (Next, tt))). m.0.number) both.1 in
+    let z : ◌≡◌ {A = ℕ} 0 1 = ap (λ (m : Lasts frame_lent_contracts.call_in.ended ([], tt) (to_mut idle, (Next, tt))). m.0.number) both.1 in
     omega arith

@@ -13,6 +13,7 @@ use Rattle.model.specs.declared.Job.{Job}
 use Rattle.model.specs.Laying.{chosen}
 use Rattle.model.proofs.Lists.{clash}
 use Rattle.model.proofs as model
+use Rattle.model.specs.contracts as model_contracts
 use Rattle.table.specs.declared.Table.{Table}
 use Rattle.records.specs.declared.kind.Form.{Form}
 use Rattle.records.specs.declared.kind.Meaning.TheVariants.{Row, Unknown}
@@ -25,23 +26,30 @@ use Rattle.records.specs.Records.{form, form_of}
 use Rattle.records.specs.Refusals.{start, past}
 use Rattle.table.specs.Tables.{empty_table}
 use Rattle.records.proofs as records
+use Rattle.records.specs.contracts as records_contracts
 use Rattle.table.proofs as table
+use Rattle.table.specs.contracts as table_contracts
 use Rattle.octets.specs.Decimals.{digits_in, decimal}
 use Rattle.octets.specs.Numbers.{four_at}
 use Rattle.octets.proofs.Hex.{hex_digits}
 use Rattle.octets.proofs as bytes
+use Rattle.octets.specs.contracts as bytes_contracts
 use Rattle.lines.specs.Lines.{pair_line}
 use Rattle.lines.proofs as lines
+use Rattle.lines.specs.contracts as lines_contracts
 use Rattle.plan.specs.declared.Plan.{Plan}
 use Rattle.plan.specs.declared.Step.{Step}
 use Rattle.plan.specs.Plans.{plan_of, with_step, step_at}
 use Rattle.plan.proofs as plan
+use Rattle.plan.specs.contracts as plan_contracts
 use Rattle.choice.specs.Choices.{prepared_of}
 use Rattle.choice.proofs as choice
+use Rattle.choice.specs.contracts as choice_contracts
 use Rattle.draft.specs.declared.Draft.{Draft}
 use Rattle.draft.specs.Drafts.{draft_of, with_chosen}
 use Rattle.draft.proofs as draft
-use Rattle.faults.specs.Allows.{to}
+use Rattle.draft.specs.contracts as draft_contracts
+use Rattle.faults.specs.Allows.{to, to_mut}
 use Rattle.frame_record.specs.declared.Frame.{Frame}
 use Rattle.frame_record.specs.declared.Phase.TheVariants.{Open}
 use Rattle.frame_record.specs.declared.Answer.TheVariants.{Done, Refused}
@@ -52,6 +60,7 @@ use Rattle.lookup.specs.Lookup.{first}
 use Rattle.frame_record.specs.Sound.{where_is, sound?, ok_begun}
 use Rattle.frame_record.specs.Answers.{idle}
 use Rattle.frame_record.proofs as frame_record
+use Rattle.frame_record.specs.contracts as frame_record_contracts
 use Rattle.settled.specs.Settled.{RulesOut}
 
 abbrev job : Job
@@ -61,13 +70,13 @@ job = record { id = 1; local = 30; sending = Either 5 40 }
 
 -- the span and the return of the other choice
 abbrev SpanNot : Bool → ℕ → Type 0
-SpanNot away r = RulesOut model.span_of.ended model.span_of.Reads.Learnt tt (job, (away, tt)) r
+SpanNot away r = RulesOut model_contracts.span_of.ended model.span_of.Reads.Learnt tt (job, (away, tt)) r
 
 pub span_of : SpanNot true 30 × SpanNot false 5
 span_of = ((λ m e. omega (arith, e.0)), (λ m e. omega (arith, e.0)))
 
 abbrev WaitNot : Bool → ℕ → Type 0
-WaitNot away r = RulesOut model.wait_of.ended model.wait_of.Reads.Learnt tt (job, (away, tt)) r
+WaitNot away r = RulesOut model_contracts.wait_of.ended model.wait_of.Reads.Learnt tt (job, (away, tt)) r
 
 pub wait_of : WaitNot true 0 × WaitNot false 40
 wait_of = ((λ m e. omega (arith, e.0)), (λ m e. omega (arith, e.0)))
@@ -76,32 +85,32 @@ wait_of = ((λ m e. omega (arith, e.0)), (λ m e. omega (arith, e.0)))
 
 -- one less, one more
 abbrev MostNot : ℕ → Type 0
-MostNot r = RulesOut table.Table.most_jobs.ended table.Table.most_jobs.Reads.Learnt tt tt r
+MostNot r = RulesOut table_contracts.Table.most_jobs.ended table.Table.most_jobs.Reads.Learnt tt tt r
 
 pub most_jobs_lem : MostNot 31 × MostNot 33
 most_jobs_lem = ((λ m e. omega (arith, e)), (λ m e. omega (arith, e)))
 
 abbrev LargestNot : ℕ → Type 0
-LargestNot r = RulesOut table.Table.largest_time.ended table.Table.largest_time.Reads.Learnt tt tt r
+LargestNot r = RulesOut table_contracts.Table.largest_time.ended table.Table.largest_time.Reads.Learnt tt tt r
 
 pub largest_time_lem : LargestNot 3999 × LargestNot 4001
 largest_time_lem = ((λ m e. omega (arith, e)), (λ m e. omega (arith, e)))
 
 abbrev LongestTableNot : ℕ → Type 0
-LongestTableNot r = RulesOut table.Table.longest_table.ended table.Table.longest_table.Reads.Learnt tt tt r
+LongestTableNot r = RulesOut table_contracts.Table.longest_table.ended table.Table.longest_table.Reads.Learnt tt tt r
 
 pub longest_table : LongestTableNot 259 × LongestTableNot 261
 longest_table = ((λ m e. omega (arith, e)), (λ m e. omega (arith, e)))
 
 abbrev LongestPlanNot : ℕ → Type 0
-LongestPlanNot r = RulesOut table.Table.longest_plan.ended table.Table.longest_plan.Reads.Learnt tt tt r
+LongestPlanNot r = RulesOut table_contracts.Table.longest_plan.ended table.Table.longest_plan.Reads.Learnt tt tt r
 
 pub longest_plan : LongestPlanNot 64 × LongestPlanNot 66
 longest_plan = ((λ m e. omega (arith, e)), (λ m e. omega (arith, e)))
 
 -- a table with a deadline, or with a job counted
 abbrev EmptyNot : ℕ → ℕ → Type 0
-EmptyNot D n = RulesOut table.Table.empty.ended table.Table.empty.Reads.Learnt tt tt (record { deadline = D; count = n; jobs = empty_table.jobs })
+EmptyNot D n = RulesOut table_contracts.Table.empty.ended table.Table.empty.Reads.Learnt tt tt (record { deadline = D; count = n; jobs = empty_table.jobs })
 
 pub table_empty : EmptyNot 1 0 × EmptyNot 0 1
 table_empty = (
@@ -111,7 +120,7 @@ table_empty = (
 
 -- a here-only record's body one byte short; its kind unknown
 abbrev FormNot : Form → Type 0
-FormNot f = RulesOut records.kind.form_of.ended records.kind.form_of.Reads.Learnt tt (0x11, tt) f
+FormNot f = RulesOut records_contracts.kind.form_of.ended records.kind.form_of.Reads.Learnt tt (0x11, tt) f
 
 pub form_of_lem : FormNot (form (Row HereRow) 2) × FormNot (form Unknown 3)
 unfolding form_of
@@ -122,7 +131,7 @@ form_of_lem = (
 
 -- the second byte of a file, the fourth; the next record one byte short, or where this one is
 abbrev StartNot : Place → Type 0
-StartNot p = RulesOut records.refusal.Place.start.ended records.refusal.Place.start.Reads.Learnt tt tt p
+StartNot p = RulesOut records_contracts.refusal.Place.start.ended records.refusal.Place.start.Reads.Learnt tt tt p
 
 pub place_start : StartNot (past start 0) × StartNot (past start 2)
 place_start = (
@@ -131,7 +140,7 @@ place_start = (
 )
 
 abbrev PastNot : Place → Type 0
-PastNot p = RulesOut records.refusal.Place.past.ended records.refusal.Place.past.Reads.Learnt tt (start, (2, tt)) p
+PastNot p = RulesOut records_contracts.refusal.Place.past.ended records.refusal.Place.past.Reads.Learnt tt (start, (2, tt)) p
 
 pub place_past : PastNot (past start 1) × PastNot start
 place_past = (
@@ -144,8 +153,8 @@ abbrev said : ℕ → Said
 said n = record { number = n; placed = false; place = 0 }
 
 pub numbers_of :
-    RulesOut records.refusal.numbers_of.ended records.refusal.numbers_of.Reads.Learnt tt (Late, tt) (said 12)
-    × RulesOut records.refusal.numbers_of.ended records.refusal.numbers_of.Reads.Learnt tt (Twice (past start 6), tt) (said 5)
+    RulesOut records_contracts.refusal.numbers_of.ended records.refusal.numbers_of.Reads.Learnt tt (Late, tt) (said 12)
+    × RulesOut records_contracts.refusal.numbers_of.ended records.refusal.numbers_of.Reads.Learnt tt (Twice (past start 6), tt) (said 5)
 numbers_of = (
   (λ m e. let z : ◌≡◌ {A = ℕ} 12 11 = ap (λ (s : Said). s.number) e in omega arith),
   (λ m e. let z : ◌≡◌ {A = ℕ} 0 7 = ap (λ (s : Said). s.place) e in omega arith),
@@ -155,13 +164,13 @@ numbers_of = (
 
 -- high byte first; the high byte dropped, or the high half
 abbrev TwoAtNot : ℕ → Type 0
-TwoAtNot r = RulesOut bytes.two_at.ended bytes.two_at.Reads.Learnt ([], tt) (to (1 ∷ 2 ∷ []), (0, tt)) r
+TwoAtNot r = RulesOut bytes_contracts.two_at.ended bytes.two_at.Reads.Learnt ([], tt) (to (1 ∷ 2 ∷ []), (0, tt)) r
 
 pub two_at : TwoAtNot 258 × TwoAtNot 1
 two_at = ((λ m e. omega (arith, e)), (λ m e. omega (arith, e)))
 
 abbrev FourAtNot : ℕ → Type 0
-FourAtNot r = RulesOut bytes.four_at.ended bytes.four_at.Reads.Learnt ([], tt) (to (1 ∷ 2 ∷ 3 ∷ 4 ∷ []), (0, tt)) r
+FourAtNot r = RulesOut bytes_contracts.four_at.ended bytes.four_at.Reads.Learnt ([], tt) (to (1 ∷ 2 ∷ 3 ∷ 4 ∷ []), (0, tt)) r
 
 pub four_at_lem : FourAtNot 16909060 × FourAtNot 513
 unfolding four_at
@@ -169,26 +178,26 @@ four_at_lem = ((λ m e. omega (arith, e)), (λ m e. omega (arith, e)))
 
 -- a place one short of the bytes, or one past them
 abbrev PutTwoNot : ℕ → Type 0
-PutTwoNot r = RulesOut bytes.put_two.ended bytes.put_two.Reads.Learnt ([], tt) (to (0 ∷ 0 ∷ 0 ∷ []), (0, (513, tt))) r
+PutTwoNot r = RulesOut bytes_contracts.put_two.ended bytes.put_two.Reads.Learnt ([], tt) (to_mut (0 ∷ 0 ∷ 0 ∷ []), (0, (513, tt))) r
 
 pub put_two : PutTwoNot 1 × PutTwoNot 3
 put_two = ((λ m e. omega (arith, e.place)), (λ m e. omega (arith, e.place)))
 
 abbrev PutFourNot : ℕ → Type 0
-PutFourNot r = RulesOut bytes.put_four.ended bytes.put_four.Reads.Learnt ([], tt) (to (replicate 5 0), (0, (513, tt))) r
+PutFourNot r = RulesOut bytes_contracts.put_four.ended bytes.put_four.Reads.Learnt ([], tt) (to_mut (replicate 5 0), (0, (513, tt))) r
 
 pub put_four : PutFourNot 3 × PutFourNot 5
 put_four = ((λ m e. omega (arith, e.place)), (λ m e. omega (arith, e.place)))
 
 abbrev PutHexNot : ℕ → Type 0
-PutHexNot r = RulesOut bytes.put_hex.ended bytes.put_hex.Reads.Learnt ([], tt) (to (replicate 9 0), (0, (513, tt))) r
+PutHexNot r = RulesOut bytes_contracts.put_hex.ended bytes.put_hex.Reads.Learnt ([], tt) (to_mut (replicate 9 0), (0, (513, tt))) r
 
 pub put_hex : PutHexNot 7 × PutHexNot 9
 put_hex = ((λ m e. omega (arith, e.place, (hex_digits 513).0)), (λ m e. omega (arith, e.place, (hex_digits 513).0)))
 
 -- the place before the number; the place before the line's end
 abbrev PutFieldNot : ℕ → Type 0
-PutFieldNot r = RulesOut lines.put_field.ended lines.put_field.Reads.Learnt ([], ([], tt)) (to (0 ∷ 0 ∷ []), (0, (to (0x20 ∷ []), (7, tt)))) r
+PutFieldNot r = RulesOut lines_contracts.put_field.ended lines.put_field.Reads.Learnt ([], ([], tt)) (to_mut (0 ∷ 0 ∷ []), (0, (to (0x20 ∷ []), (7, tt)))) r
 
 pub put_field : PutFieldNot 1
 unfolding decimal digits_in
@@ -196,8 +205,8 @@ put_field = λ m e. omega (arith, e.place)
 
 abbrev PutPairNot : ℕ → Type 0
 PutPairNot r =
-    RulesOut lines.put_pair.ended lines.put_pair.Reads.Learnt ([], ([], ([], tt)))
-    (to (replicate 5 0), (0, (to (0x20 ∷ []), (7, (to (0x20 ∷ []), (8, tt)))))) r
+    RulesOut lines_contracts.put_pair.ended lines.put_pair.Reads.Learnt ([], ([], ([], tt)))
+    (to_mut (replicate 5 0), (0, (to (0x20 ∷ []), (7, (to (0x20 ∷ []), (8, tt)))))) r
 
 pub put_pair : PutPairNot 4
 unfolding pair_line decimal digits_in
@@ -213,7 +222,7 @@ step id away = record { id = id; away = away }
 
 -- the step after it; the other choice
 abbrev FirstNot : Step → Type 0
-FirstNot x = RulesOut plan.step_at.ended plan.step_at.Reads.Learnt ([], tt) (to two, (0, tt)) x
+FirstNot x = RulesOut plan_contracts.step_at.ended plan.step_at.Reads.Learnt ([], tt) (to two, (0, tt)) x
 
 pub step_at_lem : FirstNot (step 2 false) × FirstNot (step 1 false)
 unfolding step_at
@@ -227,7 +236,7 @@ abbrev one : Plan
 one = with_step (plan_of []) (step 1 true)
 
 abbrev PlanNot : Plan → Type 0
-PlanNot p = RulesOut plan.Plan.empty.ended plan.Plan.empty.Reads.Learnt tt tt p
+PlanNot p = RulesOut plan_contracts.Plan.empty.ended plan.Plan.empty.Reads.Learnt tt tt p
 
 pub plan_empty : PlanNot one × PlanNot (record { count = 1; steps = (plan_of []).steps })
 plan_empty = (
@@ -237,7 +246,7 @@ plan_empty = (
 
 -- the step not added; another added too
 abbrev WithNot : Plan → Type 0
-WithNot p = RulesOut plan.Plan.with_step.ended plan.Plan.with_step.Reads.Learnt tt (plan_of [], (step 1 true, tt)) p
+WithNot p = RulesOut plan_contracts.Plan.with_step.ended plan.Plan.with_step.Reads.Learnt tt (plan_of [], (step 1 true, tt)) p
 
 pub with_step_lem : WithNot (plan_of []) × WithNot (with_step one (step 2 true))
 with_step_lem = (
@@ -253,7 +262,7 @@ abbrev laid_alone : Draft
 laid_alone = record { plan = plan_of []; laid = record { busy = 5; last = 45 } }
 
 abbrev DraftNot : Draft → Type 0
-DraftNot d = RulesOut draft.Draft.empty.ended draft.Draft.empty.Reads.Learnt tt tt d
+DraftNot d = RulesOut draft_contracts.Draft.empty.ended draft.Draft.empty.Reads.Learnt tt tt d
 
 pub draft_empty : DraftNot with_one × DraftNot laid_alone
 draft_empty = (
@@ -263,7 +272,7 @@ draft_empty = (
 
 -- the job not added; its numbers without its step
 abbrev JobNot : Draft → Type 0
-JobNot d = RulesOut draft.Draft.with_job.ended draft.Draft.with_job.Reads.Learnt tt (draft_of [], (job, (true, tt))) d
+JobNot d = RulesOut draft_contracts.Draft.with_job.ended draft.Draft.with_job.Reads.Learnt tt (draft_of [], (job, (true, tt))) d
 
 pub with_job : JobNot (draft_of []) × JobNot laid_alone
 with_job = (
@@ -273,7 +282,7 @@ with_job = (
 
 -- a job left out, or listed where it should not be
 abbrev IfNot : Bool → Draft → Type 0
-IfNot listed d = RulesOut draft.Draft.with_if.ended draft.Draft.with_if.Reads.Learnt tt (draft_of [], (listed, (job, (true, tt)))) d
+IfNot listed d = RulesOut draft_contracts.Draft.with_if.ended draft.Draft.with_if.Reads.Learnt tt (draft_of [], (listed, (job, (true, tt)))) d
 
 pub with_if : IfNot true (draft_of []) × IfNot false with_one
 with_if = (
@@ -285,7 +294,7 @@ with_if = (
 
 -- of two either jobs with equal returns the first is first in away order, and mask 1 sends it: no flag at all; the flag of the other job
 abbrev FlagsNot : List Bool → Type 0
-FlagsNot fs = RulesOut choice.flags_of.ended choice.flags_of.Reads.Learnt tt (prepared_of (job ∷ job ∷ []), (1, tt)) fs
+FlagsNot fs = RulesOut choice_contracts.flags_of.ended choice.flags_of.Reads.Learnt tt (prepared_of (job ∷ job ∷ []), (1, tt)) fs
 
 pub flags_of : FlagsNot (replicate most_jobs false) × FlagsNot (set (replicate most_jobs false) 1 true)
 flags_of = (
@@ -297,8 +306,8 @@ flags_of = (
 
 -- the number 1 refused, what is not a number let through
 pub finite :
-    RulesOut frame_record.finite.ended frame_record.finite.Reads.Learnt tt (fin false 1 (pos 0), tt) false
-    × RulesOut frame_record.finite.ended frame_record.finite.Reads.Learnt tt (nan, tt) true
+    RulesOut frame_record_contracts.finite.ended frame_record.finite.Reads.Learnt tt (fin false 1 (pos 0), tt) false
+    × RulesOut frame_record_contracts.finite.ended frame_record.finite.Reads.Learnt tt (nan, tt) true
 finite = ((λ m e. clash (cc)), (λ m e. clash (cc)))
 
 -- a record that is open, or has a number, is not the idle one; and a begun record without a deadline is not sound, an idle one is
@@ -306,7 +315,7 @@ abbrev opened : ℕ → Frame
 opened n = record { phase = Open; number = n; clock = 0; deadline = 0; count = 0; next = 0; order = idle.order; entries = idle.entries }
 
 abbrev IdleNot : Frame → Type 0
-IdleNot f = RulesOut frame_record.Frame.idle.ended frame_record.Frame.idle.Reads.Learnt tt tt f
+IdleNot f = RulesOut frame_record_contracts.Frame.idle.ended frame_record.Frame.idle.Reads.Learnt tt tt f
 
 pub frame_idle : IdleNot (opened 0) × IdleNot (opened 1)
 frame_idle = (
@@ -315,7 +324,7 @@ frame_idle = (
 )
 
 abbrev SoundNot : Frame → Bool → Type 0
-SoundNot f r = RulesOut frame_record.Frame.sound.ended frame_record.Frame.sound.Reads.Learnt tt (f, tt) r
+SoundNot f r = RulesOut frame_record_contracts.Frame.sound.ended frame_record.Frame.sound.Reads.Learnt tt (f, tt) r
 
 pub sound : SoundNot (opened 0) true × SoundNot idle false
 unfolding sound? ok_begun
@@ -324,7 +333,7 @@ sound = ((λ m e. clash (cc)), (λ m e. clash (cc)))
 -- an unsound record in a phase that is allowed, a sound one in none
 abbrev InNot : Frame → (before during after r : Bool) → Type 0
 InNot f before during after r =
-    RulesOut frame_record.Frame.is_in.ended frame_record.Frame.is_in.Reads.Learnt tt (f, (before, (during, (after, tt)))) r
+    RulesOut frame_record_contracts.Frame.is_in.ended frame_record.Frame.is_in.Reads.Learnt tt (f, (before, (during, (after, tt)))) r
 
 pub is_in : InNot (opened 0) false true false true × InNot idle false true true true
 unfolding sound? ok_begun
@@ -332,7 +341,7 @@ is_in = ((λ m e. clash (cc)), (λ m e. clash (cc)))
 
 -- a refusal that is said as done, and one that alters the record
 abbrev RefuseNot : Called → Type 0
-RefuseNot s = RulesOut frame_record.Frame.refuse.ended frame_record.Frame.refuse.Reads.Learnt tt (idle, (Phase, tt)) s
+RefuseNot s = RulesOut frame_record_contracts.Frame.refuse.ended frame_record.Frame.refuse.Reads.Learnt tt (idle, (Phase, tt)) s
 
 pub refuse : RefuseNot (record { answer = Done; frame = idle }) × RefuseNot (record { answer = Refused Phase; frame = opened 0 })
 refuse = (
@@ -345,7 +354,7 @@ abbrev single : Frame
 single = record { phase = Open; number = 0; clock = 0; deadline = 1; count = 1; next = 0; order = idle.order; entries = idle.entries }
 
 abbrev PositionNot : ℕ → Found → Type 0
-PositionNot id r = RulesOut frame_record.Frame.position_of.ended frame_record.Frame.position_of.Reads.Learnt tt (single, (id, tt)) r
+PositionNot id r = RulesOut frame_record_contracts.Frame.position_of.ended frame_record.Frame.position_of.Reads.Learnt tt (single, (id, tt)) r
 
 pub position_of : PositionNot 0 Nowhere × PositionNot 1 (At 0)
 unfolding where_is first

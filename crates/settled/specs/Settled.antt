@@ -25,6 +25,12 @@ module _ (T : Ended) where
   abbrev pub SettlesAsked : Asks → Tells T → Type 0
   SettlesAsked Pre Learnt = (κs : Lfts T.signature.lifetimes) (i : Args T.signature κs) → Pre κs i → OneOutcome Learnt κs i
 
+  -- So for a function whose input or output may fail, of its answers of success: `ok` makes the answer of what it promises.
+  abbrev pub SettlesOk : {A : Type 0} → ((κs : Lfts T.signature.lifetimes) → A → Res T.signature κs) → Tells T → Type 0
+  SettlesOk {A} ok Learnt =
+      (κs : Lfts T.signature.lifetimes) (i : Args T.signature κs) (r s : A) (m n : Lasts T κs i)
+      → Learnt κs i (ok κs r) (at_exit T κs i m) → Learnt κs i (ok κs s) (at_exit T κs i n) → (r ≡ s) × (m ≡ n)
+
   -- For the inputs i the contract rules the answer r out, whatever is left in lent memory.
   abbrev pub RulesOut : Tells T → (κs : Lfts T.signature.lifetimes) → Args T.signature κs → Res T.signature κs → Type 0
   RulesOut Learnt κs i r = (m : Lasts T κs i) → ¬ (Learnt κs i r (at_exit T κs i m))
@@ -32,3 +38,7 @@ module _ (T : Ended) where
   -- Nothing is asked of a call: it may be made with every input of its parameters' types.
   abbrev pub AsksNothing : Asks → Type 0
   AsksNothing Pre = (κs : Lfts T.signature.lifetimes) (i : Args T.signature κs) → Pre κs i
+
+  -- Nothing but this.
+  abbrev pub AsksOnly : Asks → Asks → Type 0
+  AsksOnly This Pre = (κs : Lfts T.signature.lifetimes) (i : Args T.signature κs) → This κs i → Pre κs i
