@@ -1,4 +1,4 @@
-// What C and Rust call: the planners and the plan check with plain numbers for answers (include/zhiblator.h).
+// What C and Rust call: the planners and the plan check with plain numbers for answers (include/zhiblator.h); crate `panel_c` exports it.
 // `number` is 0 for an accepted call, else the refusal's number; a field that an answer does not have is 0.
 #![tactic(auto)]
 
@@ -64,22 +64,19 @@ fn planned_numbers(answer: Planned) -> PlannedNumbers
     }
 }
 
-#[unsafe(no_mangle)]
-pub extern "C" fn zb_plan_free(table: &[u8], area: &mut [u8]) -> PlannedNumbers
+pub fn zb_plan_free(table: &[u8], area: &mut [u8]) -> PlannedNumbers
     ensures { (p : Planned) × FreeAnswer table.now area.old p area.new × (result ≡ planned_numbers p) }
 {
     planned_numbers(planner::plan_free(table, area))
 }
 
-#[unsafe(no_mangle)]
-pub extern "C" fn zb_plan_given(table: &[u8], area: &mut [u8]) -> PlannedNumbers
+pub fn zb_plan_given(table: &[u8], area: &mut [u8]) -> PlannedNumbers
     ensures { (p : Planned) × GivenAnswer table.now area.old p area.new × (result ≡ planned_numbers p) }
 {
     planned_numbers(planner::plan_given(table, area))
 }
 
-#[unsafe(no_mangle)]
-pub extern "C" fn zb_least_deadline(table: &[u8]) -> LeastNumbers
+pub fn zb_least_deadline(table: &[u8]) -> LeastNumbers
     ensures { (p : Least) × LeastAnswer table.now p × (result ≡ least_numbers p) }
 {
     match planner::least_deadline(table) {
@@ -99,8 +96,7 @@ pub extern "C" fn zb_least_deadline(table: &[u8]) -> LeastNumbers
     }
 }
 
-#[unsafe(no_mangle)]
-pub extern "C" fn zb_check_plan(table: &[u8], plan: &[u8]) -> CheckedNumbers
+pub fn zb_check_plan(table: &[u8], plan: &[u8]) -> CheckedNumbers
     ensures { result ≡ checked_numbers (check_plan table.now plan.now) }
 {
     match judge::check_plan(table, plan) {
