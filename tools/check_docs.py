@@ -56,7 +56,7 @@ def check_functions(tree):
     settled = text('crates/settled/proofs/Functions.antt')
     for f in public:
         crate, rest = f.key.split('.', 1)
-        if not re.search(rf'(?<![\w.-]){crate.replace("_", "[_-]")}\.{re.escape(rest)}\.ended\b', settled):
+        if not re.search(rf'(?<![\w.-]){crate}_contracts\.{re.escape(rest)}\.ended\b', settled):
             troubles.append(f'Functions.antt of crate settled has no line over the contract of {path_of(f)}')
     asking = set(re.findall(r'`([\w:]+)`', ''.join(rows(section(FUNCTIONS, 'Functions that ask something of their caller'), 0))))
     compare(f'{FUNCTIONS}, asking', {path_of(f) for f in public if ' requires ' in f.contract}, asking)

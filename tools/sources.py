@@ -136,7 +136,8 @@ class Tree:
             self.read(path)
 
     def files(self):
-        for folder, _, names in os.walk(os.path.join(self.top, 'crates')):
+        for folder, inner, names in os.walk(os.path.join(self.top, 'crates')):
+            inner[:] = [name for name in inner if name != 'out']
             for name in names:
                 if name.endswith(('.antt', '.rt')):
                     yield os.path.relpath(os.path.join(folder, name), self.top)
@@ -175,8 +176,8 @@ def imports(text):
 
 
 def file_of(module):
-    """The specs file that a module is: Rattle·table.specs.Records and Rattle·table·specs.specs.Records are one; nothing for the library's."""
-    m = re.match(r'^Rattle·(\w+)(?:·specs)?\.specs\.(?!declared)(\w+)$', module)
+    """The specs file that a module is, as Rattle.table.specs.Tables; nothing for the library's."""
+    m = re.match(r'^Rattle\.(\w+)\.specs\.(?!declared|contracts)(\w+)$', module)
     return os.path.join('crates', m[1], 'specs', m[2] + '.antt') if m else None
 
 

@@ -82,20 +82,20 @@ class Freshness(Case):
 
 class Crates(Case):
     def test_only_what_is_needed(self):
-        needed = build.needed('panel')
-        self.assertEqual((needed[0], needed[-1]), ('model', 'panel'))
-        self.assertFalse({'frame_record', 'trial', 'io'} & set(needed))
+        needed = build.needed('panel_c')
+        self.assertEqual((needed[0], needed[-1]), ('model', 'panel_c'))
+        self.assertFalse({'frame_record', 'trial', 'lister'} & set(needed))
         self.assertIn('frame_calls', build.needed('replay'))
 
     def test_progress_by_crate(self):
-        lines = ['fn model::f: proved\n', 'rt: model proved (7 s)\n',
-                 'rt: text proved (unchanged since it was last proved)\n',
-                 'rt: target/staticlib/libpanel.a has the functions of panel that are marked\n']
+        lines = ['fn model::f: proved\n', 'crate model: modules loaded=4 checked=7\n', 'logic=proved functions=3\n',
+                 'crate table: modules loaded=4 checked=7\n', 'logic=not-proved\n',
+                 'crate panel: modules loaded=4 checked=7\n', 'logic=proved functions=5\n']
         out, said = io.StringIO(), io.StringIO()
         with redirect_stderr(said):
-            build.report(lines, out, ['model', 'text', 'panel'])
+            build.report(lines, out, ['model', 'table', 'panel'])
         self.assertEqual(out.getvalue(), ''.join(lines))
-        self.assertEqual(said.getvalue(), 'proved 1 of 3: model\nproved 2 of 3: text\nproved 3 of 3: panel\n')
+        self.assertEqual(said.getvalue(), 'proved 1 of 3: model\nproved 2 of 3: panel\n')
 
 
 class Kit(Case):
@@ -124,8 +124,8 @@ class Kit(Case):
     def test_a_proof_that_fails(self):
         self.tool('rt', 'case $1 in version) echo x ;; *) echo "rt: table NOT PROVED"; exit 1 ;; esac')
         with mock.patch.object(build, 'TARGET', self.folder):
-            with self.assertRaisesRegex(Broken, 'rt staticlib panel ended with 1'):
-                self.with_path(lambda: build.prove(['staticlib', 'panel'], 'panel'))
+            with self.assertRaisesRegex(Broken, 'rt lib of crate panel_c ended with 1'):
+                self.with_path(lambda: build.prove('lib', 'panel_c'))
 
     def test_no_compiler_or_one_that_fails(self):
         archive, path = self.file('no archive', 'a.a'), os.path.join(self.folder, 'a.so')

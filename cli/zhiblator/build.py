@@ -17,8 +17,11 @@ from .troubles import Broken
 CRATES, TARGET = os.path.join(TOP, 'crates'), os.path.join(TOP, 'target')
 SHOWN_OF_A_FAILURE = 20
 
-# a crate is proved; the archive is written, which is all that rt says of the crate that it is made of
-PROVED = re.compile(r'rt: (?:(\w+) proved \(|target/staticlib/lib(\w+)\.a )')
+# rt has checked a crate; and the verdict on it
+CHECKED = re.compile(r'crate (\w+): modules ')
+PROVED = re.compile(r'logic=proved ')
+# what a crate is built from; rt keeps its work in out/ beside these
+SOURCES = ('src', 'specs', 'proofs')
 
 
 def say(line):
@@ -42,8 +45,8 @@ def needed(crate):
 def newest_source(crates):
     """When the sources last changed; a folder's time tells of a file that is gone."""
     newest = os.path.getmtime(os.path.join(TOP, 'crates.txt'))
-    for crate in crates:
-        for folder, _, names in os.walk(os.path.join(CRATES, crate)):
+    for top in [os.path.join(CRATES, crate, kind) for crate in crates for kind in SOURCES]:
+        for folder, _, names in os.walk(top):
             for path in [folder] + [os.path.join(folder, name) for name in names]:
                 newest = max(newest, os.path.getmtime(path))
     return newest
@@ -103,32 +106,34 @@ def kit_here():
     return subprocess.run(['rt', 'version'], stdout=subprocess.PIPE, universal_newlines=True).stdout.strip()
 
 
-def prove(words, crate):
-    """Runs rt and tells each crate as it is proved; what rt prints goes to a file."""
-    command = [kit_command()] + words
+def prove(word, crate):
+    """Runs an rt command in a crate's folder and tells each crate as it is proved; what rt prints goes to a file."""
+    command = [kit_command(), word]
     crates = needed(crate)
     say(f'proving {len(crates)} crates for {crate}, some minutes the first time; later uses start at once')
     log = os.path.join(TARGET, f'zhiblator-{crate}.log')
     with open(log, 'w', encoding='utf-8') as out:
-        run = subprocess.Popen(command, cwd=TOP, stdout=subprocess.PIPE, stderr=subprocess.STDOUT,
-                               encoding='utf-8', errors='replace')
+        run = subprocess.Popen(command, cwd=os.path.join(CRATES, crate), stdin=subprocess.DEVNULL,
+                               stdout=subprocess.PIPE, stderr=subprocess.STDOUT, encoding='utf-8', errors='replace')
         with run:
             report(run.stdout, out, crates)
     if run.returncode:
         with open(log, encoding='utf-8') as out:
             say(''.join(out.readlines()[-SHOWN_OF_A_FAILURE:]).rstrip())
-        raise Broken(f'rt {" ".join(words)} ended with {run.returncode}; all that it said is in {log}')
+        raise Broken(f'rt {word} of crate {crate} ended with {run.returncode}; all that it said is in {log}')
 
 
 def report(lines, out, crates):
     """Copies rt's lines to `out`, and says a line for each crate that is proved."""
-    count = 0
+    count, crate = 0, None
     for line in lines:
         out.write(line)
-        proved = PROVED.match(line)
-        if proved:
+        checked = CHECKED.match(line)
+        if checked:
+            crate = checked[1]
+        elif PROVED.match(line):
             count += 1
-            say(f'proved {count} of {len(crates)}: {proved[1] or proved[2]}')
+            say(f'proved {count} of {len(crates)}: {crate}')
 
 
 def link(archive, path):
@@ -144,23 +149,29 @@ def link(archive, path):
     os.replace(part, path)
 
 
+def taken(crate, name, path):
+    """What rt built of a crate, copied to its place under target/."""
+    os.makedirs(os.path.dirname(path), exist_ok=True)
+    shutil.copy2(os.path.join(CRATES, crate, 'out', name), path)
+
+
 def shared_library():
     archive, path = os.path.join(TARGET, 'staticlib', 'libpanel.a'), os.path.join(TARGET, 'libzhiblator.so')
 
     def make():
-        if not is_fresh(archive, needed('panel')):
-            prove(['staticlib', 'panel'], 'panel')
+        if not is_fresh(archive, needed('panel_c')):
+            prove('lib', 'panel_c')
+            taken('panel_c', 'libpanel_c.a', archive)
         link(archive, path)
 
-    return made(path, 'panel', make)
+    return made(path, 'panel_c', make)
 
 
 def program(name):
     path = os.path.join(TARGET, 'bin', name)
 
     def make():
-        prove(['check', name], name)
-        if not os.path.exists(path):
-            raise Broken(f'target/bin/{name} was removed by hand; remove target/ and try again')
+        prove('run', name)
+        taken(name, name, path)
 
     return made(path, name, make)

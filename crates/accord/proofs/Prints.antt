@@ -13,7 +13,6 @@ use Rattle.model.specs.Lists.{All}
 use Rattle.model.specs.Timetable.{Chosen, Met}
 use Rattle.model.specs.FreeOrder.{busy, last_from}
 use Rattle.model.specs.Positions.{free}
-use Rattle.model.proofs.PlanOrder.{jobs}
 use Rattle.model.proofs.Free.{free_best, free_none_iff}
 use Rattle.records.specs.declared.refusal.Refusal.TheVariants.{None, Room}
 use Rattle.records.specs.Limits.{most_jobs, longest_plan}

@@ -14,7 +14,7 @@ use Rattle.judge.specs.declared.Checked.{Checked}
 use Rattle.judge.specs.declared.Checked.TheVariants.{Passes, Fails}
 use Rattle.judge.specs.Check.{after_plan}
 use Rattle.lookup.specs.Lookup.{first, position_of, indexed}
-use Rattle.frame_record.specs.Sound.{none, entry_id, is_idle, ready?}
+use Rattle.frame_record.specs.Sound.{none, is_idle, ready?}
 use Rattle.frame_record.specs.Answers.{refused, done}
 use Rattle.frame_record.specs.declared.Phase.TheVariants.{Open}
 use Rattle.frame_record.specs.declared.Standing.TheVariants.{Waiting}

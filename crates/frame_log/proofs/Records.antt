@@ -16,7 +16,6 @@ use Rattle.frame_log.specs.declared.CallKind.{CallKind}
 use Rattle.frame_log.specs.declared.CallKind.TheVariants.{Begin, Other}
 use Rattle.frame_log.specs.declared.KindRead.{KindRead}
 use Rattle.frame_log.specs.declared.KindRead.TheVariants.{Call, Unknown}
-use Rattle.frame_log.specs.declared.RecordRead.{RecordRead}
 use Rattle.frame_log.specs.declared.RecordRead.TheVariants.{Whole, Stop}
 use Rattle.frame_log.specs.Log.{kind_of, record_size, fitting, read_as, record_at}
 

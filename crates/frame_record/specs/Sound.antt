@@ -1,6 +1,6 @@
 -- Document 01, 'The frame runner': "docs/ lists what makes a frame record sound". The list as a test, which every call makes first.
 -- specs/Listed.antt has the list in words, and proofs/Sound.antt that the test is that list. Assumes nothing.
-use Rattle.std.specs.Prelude.{ℕ, zero, suc, ◌+◌, Bool, true, false, cond, not, ◌&&◌, List, get_or, leb, ltb, eqb}
+use Rattle.std.specs.Prelude.{ℕ, zero, suc, ◌+◌, Bool, true, false, not, ◌&&◌, List, get_or, leb, ltb, eqb}
 use Rattle.records.specs.Limits.{most_jobs, largest_time}
 use Rattle.frame_record.specs.Finite.{finite?}
 use Rattle.frame_record.specs.declared.Phase.{Phase}

@@ -10,7 +10,7 @@ use lib.Seq.{get_or-take}
 use Rattle.model.specs.declared.Job.{Job}
 use Rattle.model.specs.Lists.{All, filter}
 use Rattle.model.specs.Timetable.{Chosen, here, span}
-use Rattle.model.specs.FreeOrder.{is_away, plan, busy}
+use Rattle.model.specs.FreeOrder.{is_away, busy}
 use Rattle.model.specs.Recurrence.{jobs_in_away_order}
 use Rattle.model.specs.Laying.{chosen, most_busy}
 use Rattle.model.specs.Positions.{no_job, no_choice, positions, choose}

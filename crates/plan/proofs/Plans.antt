@@ -1,6 +1,6 @@
 -- What every accepted plan is: at most 32 steps with distinct ids, whose bytes are `plan_bytes` and no others; the k-th step is
 -- read where it stands; and a plan that is written reads back as the same plan. Assumes nothing.
-use Prim.Native.Nat.{ℕ, zero, suc, ◌+◌, ◌-◌, ◌*◌, ◌≤◌, ◌<◌}
+use Prim.Native.Nat.{ℕ, zero, suc, ◌+◌, ◌*◌, ◌≤◌, ◌<◌}
 use mathlib.Core.Path.{◌≡◌, refl, sym, ap, ◌∙◌}
 use mathlib.Core.Bool.{Bool, true, false, cond}
 use mathlib.Core.List.{List, [], ◌∷◌, ◌++◌, flat_map}

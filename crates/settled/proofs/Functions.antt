@@ -13,8 +13,8 @@ use Rattle.records.specs.contracts as records_contracts
 use Rattle.table.proofs as table
 use Rattle.table.specs.contracts as table_contracts
 use Rattle.records.specs.Limits.{largest_time}
-use Rattle.octets.proofs as bytes
-use Rattle.octets.specs.contracts as bytes_contracts
+use Rattle.octets.proofs as octets
+use Rattle.octets.specs.contracts as octets_contracts
 use Rattle.lookup.proofs as lookup
 use Rattle.lookup.specs.contracts as lookup_contracts
 use Rattle.lines.proofs as lines
@@ -47,13 +47,12 @@ use Rattle.frame_calls.proofs as frame_calls
 use Rattle.frame_calls.specs.contracts as frame_calls_contracts
 use Rattle.listing.proofs as listing
 use Rattle.listing.specs.contracts as listing_contracts
-use Rattle.frame_log.proofs as log
-use Rattle.frame_log.specs.contracts as log_contracts
+use Rattle.frame_log.proofs as frame_log
+use Rattle.frame_log.specs.contracts as frame_log_contracts
 use Rattle.replaying.proofs as replaying
 use Rattle.replaying.specs.contracts as replaying_contracts
 use Rattle.panel.proofs as panel
 use Rattle.panel.specs.contracts as panel_contracts
-use Rattle.frame_lent.proofs as frame_lent
 use Rattle.frame_lent.specs.contracts as frame_lent_contracts
 use Rattle.panel.specs.Numbers.{planned_numbers, least_numbers}
 use Rattle.frame_record.specs.declared.Called.{Called}
@@ -110,25 +109,25 @@ read_table κs i r s m n p q = (p ∙ sym q, refl)
 
 -- ---- bytes, lines
 
-pub put : Settles bytes_contracts.put.ended bytes.put.Reads.Learnt
+pub put : Settles octets_contracts.put.ended octets.put.Reads.Learnt
 put κs i r s m n p q = (p.place ∙ sym q.place, λ k. ((p.area ∙ sym q.area) k, m.1))
 
-pub put_number : Settles bytes_contracts.put_number.ended bytes.put_number.Reads.Learnt
+pub put_number : Settles octets_contracts.put_number.ended octets.put_number.Reads.Learnt
 put_number κs i r s m n p q = (p.place ∙ sym q.place, λ k. ((p.area ∙ sym q.area) k, m.1))
 
-pub put_two : Settles bytes_contracts.put_two.ended bytes.put_two.Reads.Learnt
+pub put_two : Settles octets_contracts.put_two.ended octets.put_two.Reads.Learnt
 put_two κs i r s m n p q = (p.place ∙ sym q.place, λ k. ((p.area ∙ sym q.area) k, m.1))
 
-pub put_four : Settles bytes_contracts.put_four.ended bytes.put_four.Reads.Learnt
+pub put_four : Settles octets_contracts.put_four.ended octets.put_four.Reads.Learnt
 put_four κs i r s m n p q = (p.place ∙ sym q.place, λ k. ((p.area ∙ sym q.area) k, m.1))
 
-pub put_hex : Settles bytes_contracts.put_hex.ended bytes.put_hex.Reads.Learnt
+pub put_hex : Settles octets_contracts.put_hex.ended octets.put_hex.Reads.Learnt
 put_hex κs i r s m n p q = (p.place ∙ sym q.place, λ k. ((p.area ∙ sym q.area) k, m.1))
 
-pub two_at : Settles bytes_contracts.two_at.ended bytes.two_at.Reads.Learnt
+pub two_at : Settles octets_contracts.two_at.ended octets.two_at.Reads.Learnt
 two_at κs i r s m n p q = (p ∙ sym q, refl)
 
-pub four_at_lem : Settles bytes_contracts.four_at.ended bytes.four_at.Reads.Learnt
+pub four_at_lem : Settles octets_contracts.four_at.ended octets.four_at.Reads.Learnt
 four_at_lem κs i r s m n p q = (p ∙ sym q, refl)
 
 pub put_field : Settles lines_contracts.put_field.ended lines.put_field.Reads.Learnt
@@ -279,10 +278,10 @@ call_in κs i r s m n p q = let same = p ∙ sym q in (ap (λ (x : Called). x.an
 pub list_plan : Settles listing_contracts.list_plan.ended listing.list_plan.Reads.Learnt
 list_plan κs i r s m n p q = let same = listing.Texts.lists_settled _ _ r s m.1.0 n.1.0 p q in (same.0, λ k. (tt, (same.1 k, tt)))
 
-pub log_record_at : Settles log_contracts.record_at.ended log.record_at.Reads.Learnt
+pub log_record_at : Settles frame_log_contracts.record_at.ended frame_log.record_at.Reads.Learnt
 log_record_at κs i r s m n p q = (p ∙ sym q, refl)
 
-pub log_called : Settles log_contracts.called.ended log.called.Reads.Learnt
+pub log_called : Settles frame_log_contracts.called.ended frame_log.called.Reads.Learnt
 log_called κs i r s m n p q = (p ∙ sym q, refl)
 
 -- whatever it prints to; its lines may fail to be written, and two answers of success coincide

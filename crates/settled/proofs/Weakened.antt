@@ -21,7 +21,6 @@ use Rattle.frame_record.specs.declared.Event.TheVariants.{Next}
 use Rattle.frame_record.specs.Sound.{sound?, open?}
 use Rattle.frame_record.specs.Answers.{idle}
 use Rattle.frame_calls.specs.Calls.{next_of}
-use Rattle.frame_lent.proofs as frame_lent
 use Rattle.frame_lent.specs.contracts as frame_lent_contracts
 use Rattle.settled.specs.Settled.{Settles}
 use Rattle.frame_promises.specs.Lent.{CallIn}

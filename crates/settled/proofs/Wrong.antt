@@ -32,8 +32,8 @@ use Rattle.table.specs.contracts as table_contracts
 use Rattle.octets.specs.Decimals.{digits_in, decimal}
 use Rattle.octets.specs.Numbers.{four_at}
 use Rattle.octets.proofs.Hex.{hex_digits}
-use Rattle.octets.proofs as bytes
-use Rattle.octets.specs.contracts as bytes_contracts
+use Rattle.octets.proofs as octets
+use Rattle.octets.specs.contracts as octets_contracts
 use Rattle.lines.specs.Lines.{pair_line}
 use Rattle.lines.proofs as lines
 use Rattle.lines.specs.contracts as lines_contracts
@@ -164,13 +164,13 @@ numbers_of = (
 
 -- high byte first; the high byte dropped, or the high half
 abbrev TwoAtNot : ℕ → Type 0
-TwoAtNot r = RulesOut bytes_contracts.two_at.ended bytes.two_at.Reads.Learnt ([], tt) (to (1 ∷ 2 ∷ []), (0, tt)) r
+TwoAtNot r = RulesOut octets_contracts.two_at.ended octets.two_at.Reads.Learnt ([], tt) (to (1 ∷ 2 ∷ []), (0, tt)) r
 
 pub two_at : TwoAtNot 258 × TwoAtNot 1
 two_at = ((λ m e. omega (arith, e)), (λ m e. omega (arith, e)))
 
 abbrev FourAtNot : ℕ → Type 0
-FourAtNot r = RulesOut bytes_contracts.four_at.ended bytes.four_at.Reads.Learnt ([], tt) (to (1 ∷ 2 ∷ 3 ∷ 4 ∷ []), (0, tt)) r
+FourAtNot r = RulesOut octets_contracts.four_at.ended octets.four_at.Reads.Learnt ([], tt) (to (1 ∷ 2 ∷ 3 ∷ 4 ∷ []), (0, tt)) r
 
 pub four_at_lem : FourAtNot 16909060 × FourAtNot 513
 unfolding four_at
@@ -178,19 +178,19 @@ four_at_lem = ((λ m e. omega (arith, e)), (λ m e. omega (arith, e)))
 
 -- a place one short of the bytes, or one past them
 abbrev PutTwoNot : ℕ → Type 0
-PutTwoNot r = RulesOut bytes_contracts.put_two.ended bytes.put_two.Reads.Learnt ([], tt) (to_mut (0 ∷ 0 ∷ 0 ∷ []), (0, (513, tt))) r
+PutTwoNot r = RulesOut octets_contracts.put_two.ended octets.put_two.Reads.Learnt ([], tt) (to_mut (0 ∷ 0 ∷ 0 ∷ []), (0, (513, tt))) r
 
 pub put_two : PutTwoNot 1 × PutTwoNot 3
 put_two = ((λ m e. omega (arith, e.place)), (λ m e. omega (arith, e.place)))
 
 abbrev PutFourNot : ℕ → Type 0
-PutFourNot r = RulesOut bytes_contracts.put_four.ended bytes.put_four.Reads.Learnt ([], tt) (to_mut (replicate 5 0), (0, (513, tt))) r
+PutFourNot r = RulesOut octets_contracts.put_four.ended octets.put_four.Reads.Learnt ([], tt) (to_mut (replicate 5 0), (0, (513, tt))) r
 
 pub put_four : PutFourNot 3 × PutFourNot 5
 put_four = ((λ m e. omega (arith, e.place)), (λ m e. omega (arith, e.place)))
 
 abbrev PutHexNot : ℕ → Type 0
-PutHexNot r = RulesOut bytes_contracts.put_hex.ended bytes.put_hex.Reads.Learnt ([], tt) (to_mut (replicate 9 0), (0, (513, tt))) r
+PutHexNot r = RulesOut octets_contracts.put_hex.ended octets.put_hex.Reads.Learnt ([], tt) (to_mut (replicate 9 0), (0, (513, tt))) r
 
 pub put_hex : PutHexNot 7 × PutHexNot 9
 put_hex = ((λ m e. omega (arith, e.place, (hex_digits 513).0)), (λ m e. omega (arith, e.place, (hex_digits 513).0)))

@@ -1,12 +1,11 @@
 -- The bytes of a good table are accepted, as that table (`bytes_read`): the other way round from proofs/Written.antt.
 -- Each record is read off the bytes that are left from its place on, and `listed_back` does the rest. Assumes nothing.
-use Prim.Native.Nat.{ℕ, ◌+◌, ◌-◌, ◌*◌, ◌%◌, ◌/◌, ◌≤◌, ◌<◌}
+use Prim.Native.Nat.{ℕ, ◌+◌, ◌-◌, ◌≤◌, ◌<◌}
 use native.Mathlib.Nat.{add-zero}
 use native.Mathlib.Omega.{arith}
 use mathlib.Core.Path.{◌≡◌, refl, ap, sym, ◌∙◌}
 use mathlib.Core.List.{List, ◌∷◌, ◌++◌}
 use lib.ListN.{length, get_or, drop, length-drop}
-use lib.Seq.{get_or-drop}
 use borrow.Author.Tests.{lt-ltb, le-leb}
 use Rattle.model.specs.declared.Sending.{Sending}
 use Rattle.model.specs.declared.Sending.TheVariants.{HereOnly, Either}

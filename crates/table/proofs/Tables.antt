@@ -1,7 +1,7 @@
 -- Laws of the tables: what the records of a table tell once they are read (`frame_all`, `RowIs`), and the table as `table_from` holds it:
 -- one more job, and the end. What follows of a list of records is in proofs/Listed.antt. Assumes nothing.
 use Prim.Native.Nat.{ℕ, ◌+◌, ◌≤◌, ◌<◌}
-use mathlib.Core.Path.{◌≡◌, refl, sym, ap, subst, ◌∙◌}
+use mathlib.Core.Path.{◌≡◌, ap, subst, ◌∙◌}
 use mathlib.Core.Bool.{Bool, true, false, cond, ◌&&◌}
 use mathlib.Core.List.{List, [], ◌∷◌, ◌++◌}
 use lib.ListN.{length, get_or, set, length-append}

@@ -1,6 +1,6 @@
 -- Document 01, 'Bytes': "A table is one 0x10 first, 0 to 32 jobs with distinct ids, one 0x1F, nothing after."
 -- `read_table` says what a byte string means as a table, or which refusal it gets. Assumes nothing.
-use Rattle.std.specs.Prelude.{ℕ, suc, ◌+◌, ◌-◌, ◌%◌, ◌/◌, ◌≤◌, ◌≡◌, Bool, true, false, cond, ◌&&◌, List, [], ◌∷◌, ◌++◌, length, get_or, take, replicate, ltb, leb}
+use Rattle.std.specs.Prelude.{ℕ, suc, ◌+◌, ◌-◌, ◌≤◌, ◌≡◌, Bool, true, false, cond, ◌&&◌, List, [], ◌∷◌, ◌++◌, length, get_or, take, replicate, ltb, leb}
 use Rattle.model.specs.declared.Sending.{Sending}
 use Rattle.model.specs.declared.Sending.TheVariants.{HereOnly, Either}
 use Rattle.model.specs.declared.Job.{Job}

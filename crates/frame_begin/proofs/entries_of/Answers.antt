@@ -2,7 +2,6 @@
 use lib.Seq.{get_or-take}
 use Rattle.frame_begin.proofs.Filled.{filled_more}
 use mathlib.Core.Path.{◌≡◌, refl, ◌∙◌}
-use Prim.Native.Nat.{◌-◌}
 use native.Mathlib.Omega.{arith}
 use borrow.Author.Rules.{rules}
 use Rattle.model.specs.Positions.{no_job}

@@ -1,6 +1,5 @@
 -- `frame_begin::positions_of` meets its contract: the first k positions are filled. Assumes nothing.
 use mathlib.Core.Path.{◌≡◌, refl, ap, ◌∙◌}
-use Prim.Native.Nat.{◌-◌}
 use native.Mathlib.Omega.{arith}
 use borrow.Author.Rules.{rules}
 use Rattle.table.specs.Tables.{job_table}

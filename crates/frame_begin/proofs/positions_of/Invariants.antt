@@ -2,7 +2,6 @@
 use mathlib.Core.Path.{◌≡◌}
 use Prim.Native.Nat.{◌≤◌, ◌-◌}
 use Rattle.table.specs.Tables.{job_table}
-use Rattle.plan.specs.declared.Step as plan
 use Rattle.plan.specs.Plans.{read_plan}
 use Rattle.frame_begin.specs.Begin.{steps_in, filled, step_position}
 use Rattle.frame_begin.proofs.positions_of.Given as goal

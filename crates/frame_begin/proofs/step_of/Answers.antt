@@ -1,6 +1,5 @@
 -- `frame_begin::step_of` meets its contract: what is still to look at gives the same as the whole. Assumes nothing.
 use mathlib.Core.Path.{◌∙◌, sym}
-use Prim.Native.Nat.{◌-◌}
 use native.Mathlib.Omega.{arith}
 use native.Mathlib.Nat.{sub-zero}
 use borrow.Author.Rules.{rules}

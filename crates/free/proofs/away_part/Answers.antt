@@ -5,7 +5,6 @@ use Rattle.draft.proofs.Drafts.{listing_begin}
 use Rattle.choice.proofs.Held.{ready_few, ready_position}
 use Rattle.model.specs.FreeOrder.{is_away}
 use native.Mathlib.Omega.{arith}
-use Prim.Native.Nat.{◌-◌}
 use mathlib.Core.List.{[]}
 use Rattle.free.proofs.away_part.Goals as goal
 

@@ -6,7 +6,6 @@ use Rattle.model.specs.Timetable.{here}
 use lib.Seq.{length-take-le}
 use lib.ListN.{length, take}
 use native.Mathlib.Omega.{arith}
-use Prim.Native.Nat.{◌-◌}
 use mathlib.Core.Path.{◌≡◌}
 use Rattle.free.proofs.here_part.Goals as goal
 

@@ -2,7 +2,6 @@
 -- Assumes nothing.
 use mathlib.Core.Path.{◌≡◌, refl, sym, ◌∙◌}
 use mathlib.Core.Bool.{false}
-use Prim.Native.Nat.{◌-◌}
 use native.Mathlib.Omega.{arith}
 use borrow.Author.Rules.{rules}
 use lib.ListN.{length, take}
@@ -10,7 +9,6 @@ use lib.Seq.{get_or-take, length-take-le}
 use Rattle.records.specs.Limits.{most_jobs}
 use Rattle.given.proofs.Going.{going_begin, going_room, going_none, going_more, going_end}
 use Rattle.given.proofs.given_plan.Goals.{Start}
-use Rattle.given.proofs.given_plan.Invariants.{draft}
 use Rattle.given.proofs.given_plan.Goals as goal
 
 -- as many jobs stand there as are counted

@@ -1,6 +1,6 @@
 -- `listing::put_lines` meets its contract. The invariant: the lines that are left, written where they belong, give all of them written;
 -- a span has at most 65,535 ticks, so no start wraps. The measure is how many steps are left. Assumes nothing.
-use Prim.Native.Nat.{◌-◌, ◌≤◌}
+use Prim.Native.Nat.{◌≤◌}
 use native.Mathlib.Omega.{arith}
 use mathlib.Core.Path.{◌≡◌, refl, ◌∙◌}
 use lib.ListN.{length, take, get_or, length-take}

@@ -1,6 +1,6 @@
 -- `lookup::index_of` meets its contract. The invariant: the jobs from the i-th on are indexed (`Tail` of proofs/Lookup.antt).
 -- The measure is how many are left. Assumes nothing.
-use Prim.Native.Nat.{ℕ, ◌-◌, ◌≤◌}
+use Prim.Native.Nat.{ℕ, ◌≤◌}
 use mathlib.Core.List.{List}
 use Rattle.table.specs.declared.Table.{Table}
 use Rattle.table.specs.Tables.{job_table}

@@ -8,5 +8,5 @@ use Rattle.plan.proofs.put_step.Goals as goal
 pub returns : goal.returns
 returns c =
     let kind : c.if-step.kind ≡ cond c.args.step.away send_away run_here =
-        elim c.if-step.branch [ then-step w ↦ simp w.if-step.true w.kind-is | else-step w ↦ simp w.if-step.false w.kind-is ] in
+    elim c.if-step.branch [ then-step w ↦ simp w.if-step.true w.kind-is | else-step w ↦ simp w.if-step.false w.kind-is ] in
     rw kind at c.put.ensures

@@ -9,7 +9,7 @@ use Rattle.records.specs.Limits.{most_jobs}
 use Rattle.records.specs.Refusals.{start}
 use Rattle.records.proofs.Listed.{SoFar}
 use Rattle.plan.specs.declared.Step.{Step}
-use Rattle.plan.specs.Plans.{step_id, read_plan}
+use Rattle.plan.specs.Plans.{step_id}
 use Rattle.plan.proofs.Steps.{plan_entry}
 use Rattle.plan.proofs.read_plan.Given as goal
 

@@ -2,7 +2,6 @@
 -- Assumes nothing.
 use native.Mathlib.Omega.{arith}
 use mathlib.Core.Path.{◌≡◌, sym, ap, ◌∙◌}
-use mathlib.Core.Logic.{⊎_elim}
 use Rattle.records.specs.declared.kind.StepKind.TheVariants.{HereStep, AwayStep}
 use Rattle.records.specs.declared.kind.Meaning.TheVariants.{Step}
 use Rattle.records.specs.declared.kind.Form.{Form}

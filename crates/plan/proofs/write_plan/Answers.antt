@@ -1,9 +1,8 @@
 -- `plan::write_plan` meets its contract. The invariant: what is still to write, written where it belongs, gives the whole plan written
 -- at the front. The measure is how many steps are left. Assumes nothing.
-use Prim.Native.Nat.{◌-◌}
 use native.Mathlib.Omega.{arith}
 use mathlib.Core.Path.{◌≡◌, refl, sym, ap, ◌∙◌}
-use lib.ListN.{length, drop, length-map}
+use lib.ListN.{length, drop}
 use lib.Seq.{get_or-take, length-take-le}
 use borrow.Author.Rules.{rules}
 use Rattle.octets.specs.Writing.{written}
@@ -38,8 +37,7 @@ loop-i-preserved c =
 pub returns : goal.returns
 returns c =
     let xs = steps_of c.args.plan in
-    let size = counted (goal.at.returns c).Start in
-     (
+    let size = counted (goal.at.returns c).Start in (
       omega (arith, c.put.ensures.place, plan_length xs),
       c.put.ensures.area ∙
           (ap (written c.loop-i.area c.loop-i.at) (sym (bytes_done xs c.loop-i.i (omega arith))) ∙ (c.loop-i.invariant.rest ∙ written_front c.args.area.now (plan_bytes xs))),

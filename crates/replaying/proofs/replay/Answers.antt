@@ -1,6 +1,5 @@
 -- `replaying::replay` meets its contract: a turn of the loop is a turn of `frame_from` (proofs/Turns.antt). The measure is what is left of the log.
 -- Assumes nothing.
-use Prim.Native.Nat.{◌-◌}
 use native.Mathlib.Omega.{arith}
 use mathlib.Core.Path.{ap, ◌∙◌}
 use lib.ListN.{length}

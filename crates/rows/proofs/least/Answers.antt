@@ -31,12 +31,11 @@ add_job-requires c =
     (c.loop-k.invariant.1.total_columns, c.loop-k.invariant.1.mask_columns, c.requires.deadline, f.0, f.1)
 
 pub loop-k-preserved : goal.loop-k-preserved
-loop-k-preserved c =
-    (
-      omega arith,
-      job_added _ _ _ _ _ _ _ _ (search rules) c.requires c.loop-k-test.true
-          c.loop-k.invariant.1 _ _ c.add_job.ensures,
-    )
+loop-k-preserved c = (
+  omega arith,
+  job_added _ _ _ _ _ _ _ _ (search rules) c.requires c.loop-k-test.true
+      c.loop-k.invariant.1 _ _ c.add_job.ensures,
+)
 
 pub best-requires : goal.best-requires
 best-requires c =

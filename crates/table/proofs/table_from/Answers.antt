@@ -1,9 +1,8 @@
 -- `table::table_from` meets its contract. The invariant is `SoFar` of proofs/Listed.antt: the jobs read so far, and that what is still to
 -- do gives the same as the whole. Each way out of a turn is one of its laws; the measure is how many records may still come. Assumes nothing.
-use Prim.Native.Nat.{◌-◌, ◌<◌}
+use Prim.Native.Nat.{◌<◌}
 use native.Mathlib.Omega.{arith}
 use mathlib.Core.Path.{◌≡◌, sym, ap, subst, ◌∙◌}
-use mathlib.Core.Logic.{inl, inr}
 use mathlib.Core.List.{[], ◌∷◌, ◌++◌}
 use borrow.Author.Tests.{not-true, not-false}
 use Rattle.table.specs.declared.FrameRead.{FrameRead}
@@ -19,9 +18,6 @@ use Rattle.table.proofs.table_from.Goals as goal
 -- a job was c.j-1.given.0 at the place
 listed :
     (c : After-struct_known-1) →
-    
-    
-    
     row_parsed c.args.s.now c.loop-j.p c.loop-j.t.count ≡ one c.in-JobIs.j c.in-JobIs.after
 listed c = ap job_parsed (sym c.job_at.ensures ∙ c.in-JobIs.is)
 
@@ -31,7 +27,6 @@ room c = row_few (row_is _ _ _ (listed c))
 
 -- the frame record is refused; or the loop ends at an id that was seen, at the end record, or at c.args record that is refused
 judged : (c : Joined-first) →
-    
     Judged (after_frame c.args.s.now c.args.first) c.match-first.verdict c.match-first.t
 unfolding jobs_read
 judged c =

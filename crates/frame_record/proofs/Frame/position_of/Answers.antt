@@ -1,6 +1,5 @@
 -- `frame_record::Frame::position_of` meets its contract: what is still to look at gives the same as the whole. Assumes nothing.
 use mathlib.Core.Path.{◌∙◌, sym}
-use Prim.Native.Nat.{◌-◌}
 use native.Mathlib.Nat.{sub-zero}
 use borrow.Author.Rules.{rules}
 use borrow.Author.Tests.{eq-eqb, ne_eqb}

@@ -1,6 +1,5 @@
 -- `frame_record::Frame::positions_ok` meets its contract: `Going` of proofs/Marks.antt is kept, and each way out of a turn is one of its laws. Assumes nothing.
 use mathlib.Core.Path.{sym, ◌∙◌}
-use Prim.Native.Nat.{◌-◌}
 use native.Mathlib.Omega.{arith}
 use borrow.Author.Rules.{rules}
 use borrow.Author.Tests.{not-true, not-false}
