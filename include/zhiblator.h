@@ -1,6 +1,6 @@
 /* Zhiblator for C and C++: the proved planners and the plan check over plain bytes.
  *
- * Build the library with `rt staticlib panel` (target/staticlib/libpanel.a) and link it. Every table and every area
+ * Build the library with `tools/build` (target/staticlib/libpanel.a) and link it. Every table and every area
  * gets an answer: `number` is 0 for an accepted call, else the number of the refusal; `place` is the offset of the
  * refused record for 1 to 6 and 0 otherwise. With a refusal the other fields are 0 and the area is as it was. Times
  * are ticks of 1 ms.

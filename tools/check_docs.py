@@ -22,8 +22,10 @@ TOP = os.path.abspath(os.path.join(os.path.dirname(os.path.abspath(__file__)), '
 DOCUMENTS = sorted(glob.glob('*.md', root_dir=TOP) + glob.glob('*/README.md', root_dir=TOP) + glob.glob('docs/**/*.md', root_dir=TOP, recursive=True))
 FUNCTIONS = 'docs/FUNCTIONS.md'
 FORMS = 'docs/DECISIONS.md'
-ENTRIES = ['records', 'table', 'plan', 'planner', 'judge', 'frame_record', 'frame_begin', 'frame_reports', 'frame_calls', 'frame_lent', 'listing', 'log',
-           'replaying', 'panel']
+ENTRIES = ['records', 'table', 'plan', 'planner', 'judge', 'frame_record', 'frame_begin', 'frame_reports', 'frame_calls', 'frame_lent', 'listing', 'frame_log',
+           'replaying', 'panel', 'panel_c']
+# the archive, and the library whose functions it exports
+EXPORTS = ('panel_c', 'panel')
 troubles = []
 
 
@@ -48,7 +50,7 @@ def path_of(function):
 
 def check_functions(tree):
     """Each public function of a library, by crate, type and name."""
-    public = [f for f in tree.functions if f.public and not f.program]
+    public = [f for f in tree.functions if f.public and not f.program and f.crate != EXPORTS[0]]
     crates = sorted({f.crate for f in public})
     heads = [head for crate in crates for head in re.findall(r'^- ((?:`[\w:]+`[,\s]*)+)\.', section(FUNCTIONS, crate), re.M)]
     named = {name for head in heads for name in re.findall(r'`([\w:]+)`', head)}
@@ -62,6 +64,13 @@ def check_functions(tree):
     compare(f'{FUNCTIONS}, asking', {path_of(f) for f in public if ' requires ' in f.contract}, asking)
     silent = {(row[0].strip(), name) for row in cells(section(FUNCTIONS, 'Functions with no `ensures`')) for name in re.findall(r'`(\w+)`', row[1])}
     compare(f'{FUNCTIONS}, no ensures', {(f.path, f.key.split('.')[-1]) for f in tree.functions if ' ensures ' not in f.contract}, silent)
+
+
+def check_exports(tree):
+    """The archive's functions are those of crate panel: under their names, with their clauses."""
+    said = {crate: {f.key.split('.')[-1]: f.contract.replace('extern "C" ', '') for f in tree.functions if f.crate == crate and f.public}
+            for crate in EXPORTS}
+    compare(f'crate {EXPORTS[0]}', set(said[EXPORTS[1]].items()), set(said[EXPORTS[0]].items()))
 
 
 def check_signatures(tree):
@@ -108,7 +117,7 @@ def check_wrong_answers(tree):
             troubles.append(f'{FUNCTIONS}: crate settled rules out no {name}')
     every = {d.name for d in tree.theorems}
     for said in re.findall(r'Ruled\s+out:(.*?)(?=^- |^#|^\|)', text(FUNCTIONS), re.M | re.S):
-        for name in re.findall(r'\(`([a-z][\w]*-[\w-]*)`', said):
+        for name in re.findall(r'\(`([a-z]\w*_\w*)`', said):
             if name not in every:
                 troubles.append(f'{FUNCTIONS}: no theorem is called {name}')
 
@@ -161,6 +170,7 @@ def check_counts(heading, lines):
 def main():
     tree = Tree(TOP)
     check_functions(tree)
+    check_exports(tree)
     check_signatures(tree)
     check_wrong_answers(tree)
     check_trusted(tree)

@@ -1,15 +1,16 @@
 #!/usr/bin/env python3
 """costs NAME [COUNT]: which functions and proof files of a crate take the check's time.
 
-Reads the times at which the modules of the last `rt dev NAME` were written. For the whole crate let it start from nothing:
+Reads the times at which the modules of the last `rt check` were written. For the whole crate let it start from nothing, with one job:
 
-    rm -r target/inc/NAME; rt dev NAME; tools/costs.py NAME
+    cd crates/NAME; rm -r out; rt check --jobs 1; ../../tools/costs.py NAME
 """
 import collections
 import os
 import re
 import sys
 
+TOP = os.path.join(os.path.dirname(os.path.abspath(__file__)), '..')
 PAUSE = 20  # seconds without a module: another run
 
 
@@ -22,8 +23,8 @@ def modules(folder):
 
 
 def owner(name):
-    """The function or file that a module belongs to: `jobs.span` of `Rattle·trial·proofs.proofs.jobs.span.Tie.oantt`."""
-    inner = re.sub(r'^Rattle·\w+·?(?:proofs|specs)?\.(?:proofs|specs)\.', '', name)[:-len('.oantt')]
+    """The function or file that a module belongs to: `jobs.span` of `Rattle-trial-proofs.jobs.span.Tie.oantt`."""
+    inner = re.sub(r'^Rattle-\w+-(?:proofs|specs)\.', '', name)[:-len('.oantt')]
     parts = [p for p in inner.split('.') if p and p != 'decls']
     lower = [i for i, p in enumerate(parts) if p[0].islower()]
     return '.'.join(parts[:lower[-1] + 1]) if lower else '.'.join(parts[:1])
@@ -40,7 +41,7 @@ def costs(folder):
 
 def main():
     name, count = sys.argv[1], int(sys.argv[2]) if len(sys.argv) > 2 else 20
-    spent = costs(os.path.join('target', 'inc', name))
+    spent = costs(os.path.join(TOP, 'crates', name, 'out', 'incremental'))
     print(f'{sum(spent.values()):7.2f} s in all')
     for what, seconds in spent.most_common(count):
         print(f'{seconds:7.2f} s {what}')

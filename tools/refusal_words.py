@@ -21,8 +21,8 @@ def arms(text):
 
 
 def clauses(text):
-    """crates/records/specs/Refusals.antt: `refusalSays (Short p) = 1 ∷ ..`."""
-    return {int(n): (word(v), None) for v, n in re.findall(r'^refusalSays \(?(\w+)(?: p\))? = (\d+) ∷', text, re.M)}
+    """crates/records/specs/Refusals.antt: `refusal_says (Short p) = 1 ∷ ..`."""
+    return {int(n): (word(v), None) for v, n in re.findall(r'^refusal_says \(?(\w+)(?: p\))? = (\d+) ∷', text, re.M)}
 
 
 def header(text):

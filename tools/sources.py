@@ -8,6 +8,8 @@ import re
 from dataclasses import dataclass, field
 
 HEAD = re.compile(r'^(?P<indent> *)(?:(?:abbrev|unfoldable) )?(?P<pub>pub )?(?:(?P<kind>data|record) )?(?P<name>[^\s:(){}]+)(?= |$)')
+# what stands in the folder of a function's proof
+OF_A_FUNCTION = ('Proof.antt', 'Answers.antt', 'Invariants.antt')
 NOT_NAMES = {'use', 'pub', 'mod', 'module', 'unfolding', 'where', 'constructor'}
 
 
@@ -154,7 +156,7 @@ class Tree:
             self.specs += declarations(crate, path, text)
         else:
             self.proof_files[path] = squeeze(without_comments(text))
-            self.theorems += [d for d in declarations(crate, path, text) if d.public and os.path.basename(path) != 'Proof.antt']
+            self.theorems += [d for d in declarations(crate, path, text) if d.public and os.path.basename(path) not in OF_A_FUNCTION]
 
 
 USE = re.compile(r'^use (?P<module>\S+?)(?:\.\{(?P<names>.*)\})?(?: as (?P<alias>\S+))?$')

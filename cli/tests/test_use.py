@@ -151,7 +151,7 @@ class Examples(Case):
     def test_the_lister_prints_the_same(self):
         lister = os.path.join(TOP, 'target', 'bin', 'lister')
         if not os.path.exists(lister):
-            self.skipTest('the lister is not built: rt check lister')
+            self.skipTest('the lister is not built: tools/build')
         for name in EXAMPLES:
             with open(as_bytes(name), 'rb') as table:
                 listed = subprocess.run([lister], stdin=table, stdout=subprocess.PIPE).stdout.decode()

@@ -32,7 +32,7 @@ def needed(crate):
     """The repository's crates that a crate is built from, itself among them, in the order of crates.txt."""
     with open(os.path.join(TOP, 'crates.txt'), encoding='utf-8') as file:
         listed = [line.split('#')[0].split(':') for line in file]
-    uses = {line[0].strip(): line[1].split() for line in listed if len(line) == 2}
+    uses = {line[0].split()[0]: line[1].split() for line in listed if len(line) == 2}
     wanted, found = [crate], set()
     while wanted:
         name = wanted.pop()

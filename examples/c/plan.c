@@ -1,6 +1,6 @@
 /* Plans a table from standard input, prints the plan, and checks it: a small program over include/zhiblator.h.
  *
- *   rt staticlib panel
+ *   tools/build
  *   cc -Iinclude examples/c/plan.c target/staticlib/libpanel.a -o target/plan
  *   target/plan < tables/e.table
  */

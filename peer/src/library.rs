@@ -56,8 +56,7 @@ impl Library {
     #[cfg(not(proved))]
     pub fn proved() -> Result<Library, &'static str> {
         Err(
-            "the proved library is not linked: make libpanel.a with `rt staticlib panel` \
-             and build again",
+            "the proved library is not linked: make libpanel.a with `tools/build` and build again",
         )
     }
 

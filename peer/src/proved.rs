@@ -1,7 +1,7 @@
 //! The proved library for Rust programs: a safe wrapper over include/zhiblator.h.
 //!
 //! This file stands alone. To use it elsewhere, copy it and link the archive
-//! `libpanel.a` that `rt staticlib panel` makes (build.rs beside it shows how).
+//! `libpanel.a` that `tools/build` makes (build.rs beside it shows how).
 //!
 //! ```
 //! use peer::proved::{self, Refusal, LONGEST_PLAN};
