@@ -8,8 +8,8 @@ import re
 from dataclasses import dataclass, field
 
 HEAD = re.compile(r'^(?P<indent> *)(?:(?:abbrev|unfoldable) )?(?P<pub>pub )?(?:(?P<kind>data|record) )?(?P<name>[^\s:(){}]+)(?= |$)')
-# what stands in the folder of a function's proof
-OF_A_FUNCTION = ('Proof.antt', 'Answers.antt', 'Invariants.antt')
+# crates/NAME/proofs/FILE.antt has lemmas; what lies deeper is a function's proof
+LEMMAS = 3
 NOT_NAMES = {'use', 'pub', 'mod', 'module', 'unfolding', 'where', 'constructor'}
 
 
@@ -156,7 +156,7 @@ class Tree:
             self.specs += declarations(crate, path, text)
         else:
             self.proof_files[path] = squeeze(without_comments(text))
-            self.theorems += [d for d in declarations(crate, path, text) if d.public and os.path.basename(path) not in OF_A_FUNCTION]
+            self.theorems += [d for d in declarations(crate, path, text) if d.public and path.count(os.sep) == LEMMAS]
 
 
 USE = re.compile(r'^use (?P<module>\S+?)(?:\.\{(?P<names>.*)\})?(?: as (?P<alias>\S+))?$')

@@ -1,8 +1,8 @@
 -- One read more, put into the rest of an area: what stands at its front is what was taken from the input. Assumes nothing.
 use Rattle.std.proofs.Common.{◌≡◌, ℕ, ◌+◌, ◌≤◌, List, ◌++◌, Option, length, take, drop, sym, ap, ◌∙◌, subst, le_refl, drop_at, length-take-le}
 use Rattle.std.proofs.lemmas.Slice.{take-put_mid_below}
-use Rattle.std.specs.Io.KnownBytes.{Consumes, Keeps}
-use Rattle.std.proofs.KnownBytes.{Consumes-trans, Consumes-kept}
+use Rattle.std.specs.Io.KnownBytes.{Consumes}
+use Rattle.std.proofs.KnownBytes.{Consumes-trans}
 use borrow.Rule.Slice.PartMut.{put_mid, post_of}
 use lib.Seq.{take-add, take-append-le}
 
@@ -14,10 +14,9 @@ front n m room area part within fits =
     sym (take-add n m (put_mid n room area part) ∙ ap (λ (l : List ℕ). l ++ take m (drop n (put_mid n room area part))) first
     ∙ ap (λ (l : List ℕ). take n area ++ l) behind)
 
--- the input as it was, then, and now: a read that gave m bytes, and one that gave none
-module _ (a b c : Option (List ℕ)) (n room : ℕ) (area part : List ℕ) (within : n ≤ length area) (so : Consumes a b (take n area)) where
-  pub filled_more : (m : ℕ) → m ≤ length part → Consumes b c (take m part) → Consumes a c (take (n + m) (put_mid n room area part))
-  filled_more m fits more = subst (Consumes a c) (front n m room area part within fits) (Consumes-trans a b c _ _ so more)
-
-  pub filled_still : Keeps b c → Consumes a c (take n (put_mid n room area part))
-  filled_still kept = subst (Consumes a c) (sym (take-put_mid_below n room area part n (le_refl n) within)) (Consumes-kept a b c _ so kept)
+-- the input as it was, before a read that gave m bytes, and behind it
+pub filled_more :
+    (a b c : Option (List ℕ)) (n room : ℕ) (area part : List ℕ) → n ≤ length area → Consumes a b (take n area) →
+    (m : ℕ) → m ≤ length part → Consumes b c (take m part) → Consumes a c (take (n + m) (put_mid n room area part))
+filled_more a b c n room area part within so m fits more =
+    subst (Consumes a c) (front n m room area part within fits) (Consumes-trans a b c _ _ so more)

@@ -5,28 +5,21 @@ ghost use Rattle.std.specs.Prelude.{◌≤◌, ◌<◌, length, take, IfOk};
 ghost use Rattle.std.specs.Io.KnownBytes.{Consumes, IsAtEnd};
 
 use std::io;
-use std::io::{ErrorKind, Read};
+use std::io::Read;
 
-// Reads until the area is full or the input ends, and answers how many bytes it put at the front of the area. A read that was interrupted is made again.
+// Reads until the area is full or the input ends, and answers how many bytes it put at the front of the area; the only error is that of a read.
 pub fn fill<R: Read>(from: &mut R, area: &mut [u8]) -> io::Result<usize>
     ensures within { IfOk result (λ n. n ≤ length area.new) }
     ensures bytes { IfOk result (λ n. Consumes (R.remaining from.old) (R.remaining from.new) (take n area.new)) }
     ensures ended { IfOk result (λ n. n < length area.new → IsAtEnd (R.remaining from.new)) }
 {
     let mut n = 0;
-    for _ in 0..u64::MAX {
-        if n >= area.len() {
+    while n < area.len() {
+        let more = from.read(&mut area[n..])?;
+        if more == 0 {
             return Ok(n);
         }
-        match from.read(&mut area[n..]) {
-            Ok(0) => return Ok(n),
-            Ok(more) => n += more,
-            Err(e) => {
-                if e.kind() != ErrorKind::Interrupted {
-                    return Err(e);
-                }
-            }
-        }
+        n += more;
     }
-    Err(io::Error::from(ErrorKind::Interrupted))
+    Ok(n)
 }

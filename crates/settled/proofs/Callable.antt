@@ -22,6 +22,9 @@ use Rattle.replaying.proofs as replaying
 use Rattle.replaying.specs.contracts as replaying_contracts
 use Rattle.panel.proofs as panel
 use Rattle.panel.specs.contracts as panel_contracts
+use Rattle.input.proofs as input
+use Rattle.input.specs.contracts as input_contracts
+use Rattle.std.specs.declared.io.Read
 use Rattle.settled.specs.Settled.{AsksNothing, AsksOnly}
 use Prim.Native.Nat.{ℕ}
 use mathlib.Core.List.{Mem}
@@ -109,3 +112,8 @@ zb_least_deadline κs i = tt
 
 pub zb_check_plan : AsksNothing panel_contracts.zb_check_plan.ended panel.zb_check_plan.Reads.Pre
 zb_check_plan κs i = tt
+
+module _ (T : RattleType) (L : Laws T) (P : Read.Ghosts T.Denot) (d : Dict) where
+  -- whatever it reads from, likewise
+  pub fill : AsksOnly (input_contracts.fill.ended T P d) (λ κs i. (a : ℕ) → Mem a T.lives → Mem a κs.1.1.0) (input.fill.Reads.Pre T L P d)
+  fill κs i lives = lives

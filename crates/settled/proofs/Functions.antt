@@ -1,6 +1,6 @@
--- For every public function of every crate: two outcomes that its contract allows coincide. The contract is the function's own, not a copy: an `ensures`
--- that came to allow two would fail here. i are the inputs, r and s two answers, m and n what is left in lent memory with each, p and q that the contract
--- allows the one and the other. Assumes nothing.
+-- For every public function of every crate but `input`, whose answer is the reader's: two outcomes that its contract allows coincide. The contract is the
+-- function's own, not a copy: an `ensures` that came to allow two would fail here. i are the inputs, r and s two answers, m and n what is left in lent
+-- memory with each, p and q that the contract allows the one and the other. Assumes nothing.
 use mathlib.Core.Path.{refl, sym, ap, ◌∙◌}
 use mathlib.Core.List.{reverse}
 use Prim.Native.Nat.{suc}
