@@ -28,7 +28,10 @@ module _ (js : List Job) (sound : SoundJobs js) (p : Prepared) (held : p ≡ pre
     said = ap best_mask_says (allows js held)
 
     pub found_none : (best_mask_says r ≡ 7 ∷ []) ↔ ¬ (Met d js)
-    found_none = ((λ e. step (answer d js) refl (sym said ∙ e)), (λ n. said ∙ ap (λ (c : Cell). best_mask_says (best_mask_of c)) ((none_iff_no_timetable d js).1 n)))
+    found_none = (
+      (λ e. step (answer d js) refl (sym said ∙ e)),
+      (λ n. said ∙ ap (λ (c : Cell). best_mask_says (best_mask_of c)) ((none_iff_no_timetable d js).1 n)),
+    )
       where
         step : (c : Cell) → answer d js ≡ c → best_mask_says (best_mask_of c) ≡ 7 ∷ [] → ¬ (Met d js)
         step empty e q = (none_iff_no_timetable d js).0 e

@@ -192,7 +192,8 @@ pub plan_checked :
     check_plan s p ≡ timed t.deadline cs
 unfolding check_plan
 plan_checked s p t cs table plan of =
-    ap (after_table p) (table_read_lem s (accepted t) table) ∙ (ap (after_plan t) (plan_read_lem p (accepted (steps_for cs)) plan) ∙ plan_judged t table.0 cs of)
+    ap (after_table p) (table_read_lem s (accepted t) table) ∙
+    (ap (after_plan t) (plan_read_lem p (accepted (steps_for cs)) plan) ∙ plan_judged t table.0 cs of)
 
 -- what they come to is what the check says
 pub check_read : (s p : List ℕ) (c : Checked) → CheckIs s p c → check_plan s p ≡ c

@@ -120,7 +120,8 @@ module _
         new h ok (inl m) = faulty (twice x more h ok (subst (λ (i : ℕ). Memᴰ i (map id_of xs)) m.2 (Memᴰ.map id_of m.1)))
         new h ok (inr d) =
             subst Told (append_assoc (joined first) (flat_map bytes_of (xs ++ (x ∷ []))) more ∙
-            (ap (λ (l : List ℕ). joined first ++ l) (flat_more bytes_of xs x more) ∙ sym (append_assoc (joined first) (flat_map bytes_of xs) (bytes_of x ++ more))))
+            (ap (λ (l : List ℕ). joined first ++ l) (flat_more bytes_of xs x more)
+            ∙ sym (append_assoc (joined first) (flat_map bytes_of xs) (bytes_of x ++ more))))
             (on x more h (good_more xs x good h ok d) bytes)
 
         ranged : length xs < most_jobs → InRange x ⊎ ¬ InRange x → Told (joined first ++ flat_map bytes_of xs ++ (bytes_of x ++ more))

@@ -79,7 +79,8 @@ unfolding flat_map
 plan_or_fault s = step (listed_or_fault step_id step_bytes NoTimes step_kinds 0x2F Any (λ x. inl tt) record_is [] s (all_all (λ b. tt) s))
   where
     step :
-        ((xs : List Step) × GoodPlan xs × (s ≡ flat_map step_bytes xs ++ (0x2F ∷ []))) ⊎ ((f : Refusal) × PlanFault s f) → (o : Outcome (List Step)) × PlanIs s o
+        ((xs : List Step) × GoodPlan xs × (s ≡ flat_map step_bytes xs ++ (0x2F ∷ []))) ⊎ ((f : Refusal) × PlanFault s f) →
+        (o : Outcome (List Step)) × PlanIs s o
     step (inl p) = (accepted p.0, (p.1, p.2 ∙ sym (plan_flat p.0)))
     step (inr f) = (refused f.0, f.1)
 

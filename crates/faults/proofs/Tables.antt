@@ -27,7 +27,8 @@ use Rattle.table.specs.declared.JobRead.TheVariants.{JobRefused}
 use Rattle.records.specs.Limits.{most_jobs, largest_time}
 use Rattle.records.specs.Refusals.{start, past, Outcome, accepted, refused}
 use Rattle.records.specs.Records.{form_of, frame_only, row_only, bad}
-use Rattle.table.specs.Tables.{JobTable, TimesOk, time_ok, deadline_at, frame_at, row_body, job_at, job_parsed, job_id, jobs_read, after_frame, with_deadline, read_table}
+use Rattle.table.specs.Tables.{JobTable, TimesOk, time_ok, deadline_at, frame_at, row_body, job_at, job_parsed}
+use Rattle.table.specs.Tables.{job_id, jobs_read, after_frame, with_deadline, read_table}
 use Rattle.table.specs.Tables.{sending_bytes, job_bytes, table_bytes}
 use Rattle.records.proofs.Records.{row_byte, form_all, frame_form, opened}
 use Rattle.model.proofs.Tests.{both}

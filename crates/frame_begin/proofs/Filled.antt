@@ -23,7 +23,8 @@ module _ {A : Type 0} (d : A) (g : ℕ → A) where
   filled_length (suc n) = length-set (filled d g n) n (g n) ∙ filled_length n
 
   -- what stands at a position that is filled
-  at_step : (n i : ℕ) → n < 32 → i < suc n → (i < n → get_or (filled d g n) i d ≡ g i) → (b : Bool) → eqb i n ≡ b → get_or (set (filled d g n) n (g n)) i d ≡ g i
+  at_step : (n i : ℕ) → n < 32 → i < suc n → (i < n → get_or (filled d g n) i d ≡ g i) → (b : Bool) → eqb i n ≡ b →
+      get_or (set (filled d g n) n (g n)) i d ≡ g i
   at_step n i room h on true is = rw (eqb-true i n is) (get_or-set_same (filled d g n) n (g n) d (omega (arith, filled_length n)))
   at_step n i room h on false is = get_or-set_other (filled d g n) n i (g n) d (eqb-false i n is) ∙ on (omega (arith, eqb-false i n is))
 

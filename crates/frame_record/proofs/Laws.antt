@@ -11,7 +11,8 @@ use native.Mathlib.Omega.{arith}
 use Rattle.model.proofs.Tests.{false_true, and_left, and_right}
 use Rattle.lookup.specs.declared.Found.TheVariants.{At}
 use Rattle.lookup.proofs.Lookup.{first_below}
-use Rattle.frame_record.specs.Sound.{none, position_at, entry_id, where_is, ok_order, ok_at, ok_from, ok_counts, ok_deadline, ok_begun, ok_in, phase_in, is_open}
+use Rattle.frame_record.specs.Sound.{none, position_at, entry_id, where_is, ok_order, ok_at, ok_from, ok_counts}
+use Rattle.frame_record.specs.Sound.{ok_deadline, ok_begun, ok_in, phase_in, is_open}
 use Rattle.frame_record.specs.Sound.{sound?, open?, begun?, ready?}
 use Rattle.frame_record.specs.declared.Phase.{Phase}
 use Rattle.frame_record.specs.declared.Phase.TheVariants.{Idle, Open, Closed}

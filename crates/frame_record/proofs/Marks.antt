@@ -55,7 +55,8 @@ module _ {A : Type 0} (key : A → ℕ) (d : A) (xs : List A) where
         came x h true b e = (k, omega arith, eqb-true (key_at k) x b)
         came x h false b e = let r = m.came x h (sym (other x b) ∙ e) in (r.0, omega (arith, r.1), r.2)
 
-        unseen : (x : ℕ) → x < n → (b : Bool) → eqb (key_at k) x ≡ b → get_or (set flags (key_at k) true) x false ≡ false → (i : ℕ) → i < k + 1 → key_at i ≡ x → ⊥
+        unseen : (x : ℕ) → x < n → (b : Bool) → eqb (key_at k) x ≡ b → get_or (set flags (key_at k) true) x false ≡ false → (i : ℕ) → i < k + 1 →
+            key_at i ≡ x → ⊥
         unseen x h true b e i q is = false_true (sym e ∙ subst (λ (y : ℕ). get_or (set flags (key_at k) true) y false ≡ true) (eqb-true (key_at k) x b) same)
         unseen x h false b e i q is =
             elim (eq-or-lt_of_le (up_to i q)) [

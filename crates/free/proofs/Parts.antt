@@ -40,7 +40,8 @@ listed_here d true j = refl
 listed_here d false j = refl
 
 -- a flagged job, by its position
-choose_at : (js : List Job) (flags : List Bool) (i : ℕ) → i < length js → get_or (choose js flags) i no_choice ≡ chosen (get_or js i no_job) (get_or flags i false)
+choose_at : (js : List Job) (flags : List Bool) (i : ℕ) → i < length js →
+    get_or (choose js flags) i no_choice ≡ chosen (get_or js i no_job) (get_or flags i false)
 choose_at js flags i h =
     let j : (get_or (choose js flags) i no_choice).job ≡ get_or js i no_job = sym (get_or-map (λ (x : Chosen). x.job) (choose js flags) i no_choice)
     ∙ ap (λ (l : List Job). get_or l i no_job) (choose_jobs js flags) in

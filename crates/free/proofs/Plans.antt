@@ -33,7 +33,8 @@ pub plan_many : (cs : List Chosen) → (js : List Job) → Choice js cs → leng
 plan_many cs js c = length_perm (perm_plan cs c.allowed)
 
 module _ (js : List Job) (sound : SoundJobs js) (D : ℕ) where
-  pub found_nothing : Nothing ≡ best_mask_of (answer D js) → ◌≡◌ {A = Drafted} (record { found = false; draft = draft_of [] }) (drafted_of (free most_jobs D js))
+  pub found_nothing : Nothing ≡ best_mask_of (answer D js) →
+      ◌≡◌ {A = Drafted} (record { found = false; draft = draft_of [] }) (drafted_of (free most_jobs D js))
   found_nothing e = step (answer D js) refl e
     where
       step : (c : Cell) → answer D js ≡ c → Nothing ≡ best_mask_of c

@@ -10,7 +10,8 @@ use lib.Seq.{take-add, take-append-le}
 front : (n m room : ℕ) (area part : List ℕ) → n ≤ length area → m ≤ length part → take n area ++ take m part ≡ take (n + m) (put_mid n room area part)
 front n m room area part within fits =
     let first = take-put_mid_below n room area part n (le_refl n) within in
-    let behind = ap (take m) (drop_at (take n area) (part ++ post_of n room area) n (length-take-le n area within)) ∙ take-append-le m part (post_of n room area) fits in
+    let behind = ap (take m) (drop_at (take n area) (part ++ post_of n room area) n (length-take-le n area within))
+    ∙ take-append-le m part (post_of n room area) fits in
     sym (take-add n m (put_mid n room area part) ∙ ap (λ (l : List ℕ). l ++ take m (drop n (put_mid n room area part))) first
     ∙ ap (λ (l : List ℕ). take n area ++ l) behind)
 

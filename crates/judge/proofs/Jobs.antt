@@ -39,7 +39,8 @@ module _ {A : Type 0} where
   -- a member stands first in a permutation
   member_first : {x : A} {ys : List A} → Memᴰ x ys → (zs : List A) × Permᴰ (x ∷ zs) ys
   member_first (Memᴰ.head {xs = ys} e) = (ys, mathlib.Core.List.Permᴰ.cons e (mathlib.Core.List.Permᴰ.refl ys))
-  member_first (Memᴰ.tail {x = y} m) = let r = member_first m in (y ∷ r.0, mathlib.Core.List.Permᴰ.trans (mathlib.Core.List.Permᴰ.swap refl refl) (mathlib.Core.List.Permᴰ.cons refl r.1))
+  member_first (Memᴰ.tail {x = y} m) = let r = member_first m in
+      (y ∷ r.0, mathlib.Core.List.Permᴰ.trans (mathlib.Core.List.Permᴰ.swap refl refl) (mathlib.Core.List.Permᴰ.cons refl r.1))
 
   all_front : (P : A → Type 0) (xs ys : List A) → All P (xs ++ ys) → All P xs
   all_front P [] ys h = tt
@@ -164,7 +165,8 @@ all_or_left js cs table plan h =
         let all : Permᴰ (jobs_of cs) js = rw append-nil at d in
         inl (omega (arith, length_perm all, length-map cs the_job), all)
     step (j ∷ rest) d =
-        let first : Permᴰ js (j ∷ (jobs_of cs ++ rest)) = mathlib.Core.List.Permᴰ.trans (mathlib.Core.List.Permᴰ.symm d) (mathlib.Core.List.Permᴰ.middle j (jobs_of cs) rest) in
+        let first : Permᴰ js (j ∷ (jobs_of cs ++ rest)) = mathlib.Core.List.Permᴰ.trans (mathlib.Core.List.Permᴰ.symm d)
+        (mathlib.Core.List.Permᴰ.middle j (jobs_of cs) rest) in
         let others = (pairwise_perm (λ (x y : Job). ¬ (x.id ≡ y.id)) (λ x y n e. n (sym e)) first table).0 in
         let not_there = all_of_map the_job _ cs (all_front (λ (x : Job). ¬ (j.id ≡ x.id)) (jobs_of cs) rest others) in
         inr (

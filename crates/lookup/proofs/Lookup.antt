@@ -169,7 +169,10 @@ pub record Tail (js : List Job) (i : ℕ) (index : List ℕ) : Type 0 where
 
 pub tail_begin : (js : List Job) (i : ℕ) → length js ≤ i → Tail js i (replicate 256 most_jobs)
 tail_begin js i h =
-    record { size = length-replicate 256 most_jobs; tells = λ id b. get_or-replicate 256 id most_jobs 0 b ∙ ap indexed (sym (first_end job_id no_job js id i _ h)) }
+    record {
+      size = length-replicate 256 most_jobs;
+      tells = λ id b. get_or-replicate 256 id most_jobs 0 b ∙ ap indexed (sym (first_end job_id no_job js id i _ h));
+    }
 
 -- one job more at the front, which counts before the others
 module _ (js : List Job) (i : ℕ) (index : List ℕ) (more : i < length js) where

@@ -45,7 +45,8 @@ Claimed s (plan_is p busy last) =
     (before : List ℕ) (r : Planned) (after : List ℕ) → longest_plan ≤ length before → FreeAllows s before r after
     → (planned_says r ≡ 0 ∷ length p ∷ busy ∷ last ∷ []) × (after ≡ p ++ drop (length p) before)
 Claimed s no_plan = (before : List ℕ) (r : Planned) (after : List ℕ) → longest_plan ≤ length before → FreeAllows s before r after → Refuses None before r after
-Claimed s no_given = (before : List ℕ) (r : Planned) (after : List ℕ) → longest_plan ≤ length before → GivenAllows s before r after → Refuses None before r after
+Claimed s no_given = (before : List ℕ) (r : Planned) (after : List ℕ) → longest_plan ≤ length before → GivenAllows s before r after →
+    Refuses None before r after
 Claimed s (least_is d) = (r : Least) → LeastAllows s r → least_says r ≡ 0 ∷ d ∷ []
 Claimed s (reads ns) = (r : TableRead) → TableAllows s r → verdict_says r.verdict ≡ ns
 Claimed s (checks p ns) = (r : Checked) → CheckAllows s p r → checked_says r ≡ ns

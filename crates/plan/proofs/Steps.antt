@@ -29,7 +29,8 @@ use Rattle.plan.specs.declared.Step.{Step}
 use Rattle.plan.specs.declared.Record.TheVariants.{Listed, Last}
 use Rattle.plan.specs.declared.RecordRead.{RecordRead}
 use Rattle.plan.specs.declared.RecordRead.TheVariants.{RecordIs, RecordRefused}
-use Rattle.plan.specs.Plans.{step_body, record_at, step_parsed, plan_read, ended_at, step_bytes, plan_bytes, no_step, plan_of, steps_of, with_step, step_of, steps_for}
+use Rattle.plan.specs.Plans.{step_body, record_at, step_parsed, plan_read, ended_at, step_bytes, plan_bytes, no_step}
+use Rattle.plan.specs.Plans.{plan_of, steps_of, with_step, step_of, steps_for}
 
 -- the reading of one record of a plan
 abbrev pub plan_entry : List ℕ → Place → ℕ → Parsed Step

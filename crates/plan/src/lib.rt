@@ -4,7 +4,8 @@
 ghost use Rattle.std.specs.Prelude.{◌≡◌, [], ◌++◌, ◌+◌, ◌<◌, ◌≤◌, length, drop};
 ghost use Rattle.records.specs.Limits.{most_jobs, longest_plan};
 ghost use Rattle.octets.specs.Writing.{Wrote};
-ghost use Rattle.plan.specs.Plans.{listed_at, record_at, refusal_of, ended_at, read_plan, plan_read, step_bytes, plan_bytes, step_at, plan_of, with_step, steps_of};
+ghost use Rattle.plan.specs.Plans.{listed_at, record_at, refusal_of, ended_at, read_plan, plan_read, step_bytes, plan_bytes};
+ghost use Rattle.plan.specs.Plans.{step_at, plan_of, with_step, steps_of};
 
 use records::kind;
 use records::kind::{Meaning, PLAN_END, RUN_HERE, SEND_AWAY, StepKind};

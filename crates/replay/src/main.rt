@@ -7,6 +7,5 @@ use std::io;
 fn main(rt: HostRuntime) -> io::Result<()> {
     let mut log = [0u8; 65536];
     let n = input::fill(&mut rt.reader(), &mut log)?;
-    replaying::replay(&rt, &log[..n])?;
-    Ok(())
+    replaying::replay(&rt, &log[..n]).written
 }

@@ -3,7 +3,7 @@
 // No contract can speak of standard output: that a line's bytes go there, one line after the other, stands in `print_line` and `replay` alone.
 #![tactic(auto)]
 
-ghost use Rattle.std.specs.Prelude.{◌≡◌, ◌+◌, ◌≤◌, length, IfOk};
+ghost use Rattle.std.specs.Prelude.{◌≡◌, ◌+◌, ◌≤◌, length};
 ghost use Rattle.std.specs.Float.Ieee.{to_bits};
 ghost use Rattle.std.specs.Float.{binary32};
 ghost use Rattle.octets.specs.Writing.{Wrote};
@@ -153,29 +153,46 @@ fn next_line(frame: Frame, at: usize, s: &[u8], out: &mut [u8]) -> Turn
     show(frame, kind, &s[..size], out)
 }
 
-// Makes one turn and writes its line to standard output in one piece.
-fn print_line(rt: &impl Print, frame: Frame, at: usize, s: &[u8]) -> io::Result<Turn>
-    ensures { IfOk result (λ turn. Moved frame s.now turn) }
+// What a log comes to: the frame's record afterwards, and whether all lines could be written.
+#[derive(Drop)]
+pub struct Replayed {
+    pub frame: Frame,
+    pub written: io::Result<()>,
+}
+
+// Makes one turn and writes its line in one piece, unless a line before could not be written: a text with a hole would read as a whole one.
+fn print_line(
+    rt: &impl Print,
+    written: io::Result<()>,
+    frame: Frame,
+    at: usize,
+    s: &[u8],
+) -> (Turn, io::Result<()>)
+    ensures { Moved frame s.now result.0 }
 {
     let mut out = [0u8; 64];
     let turn = next_line(frame, at, s, &mut out);
     let size = turn.size;
-    rt.write_all(&out[..size])?;
-    Ok(turn)
+    if written.is_err() {
+        return (turn, written);
+    }
+    (turn, rt.write_all(&out[..size]))
 }
 
 // Makes the calls of a log from idle and writes a line for each, up to a record of unknown kind or with its body cut.
-// Returns the frame's record afterwards; the only error is that of a line that could not be written.
-pub fn replay(rt: &impl Print, log: &[u8]) -> io::Result<Frame>
-    ensures { IfOk result (λ frame. frame ≡ replayed log.now) }
+// The calls are made also where a line cannot be written; the only error is that of the first such line.
+pub fn replay(rt: &impl Print, log: &[u8]) -> Replayed
+    ensures { result.frame ≡ replayed log.now }
 {
     let mut frame = Frame::idle();
+    let mut written = Ok(());
     let mut at = 0;
     while at < log.len() {
         let rest = &log[at..];
-        let turn = print_line(rt, frame, at, rest)?;
+        let (turn, after) = print_line(rt, written, frame, at, rest);
+        written = after;
         frame = turn.frame;
         at += turn.gone;
     }
-    Ok(frame)
+    Replayed { frame, written }
 }

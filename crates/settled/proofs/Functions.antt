@@ -56,8 +56,7 @@ use Rattle.panel.specs.contracts as panel_contracts
 use Rattle.frame_lent.specs.contracts as frame_lent_contracts
 use Rattle.panel.specs.Numbers.{planned_numbers, least_numbers}
 use Rattle.frame_record.specs.declared.Called.{Called}
-use Rattle.settled.specs.Settled.{Settles, SettlesAsked, SettlesOk}
-use Rattle.std.specs.Prelude.{Ok}
+use Rattle.settled.specs.Settled.{Settles, SettlesAsked, SettlesPart}
 use Rattle.std.specs.declared.io.Print
 use denote.RattleType.{RattleType}
 use denote.Param.Laws.{Laws}
@@ -284,9 +283,9 @@ log_record_at κs i r s m n p q = (p ∙ sym q, refl)
 pub log_called : Settles frame_log_contracts.called.ended frame_log.called.Reads.Learnt
 log_called κs i r s m n p q = (p ∙ sym q, refl)
 
--- whatever it prints to; its lines may fail to be written, and two answers of success coincide
+-- whatever it prints to: the frame's record, as whether the lines could be written is not its own
 module _ (T : RattleType) (L : Laws T) (P : Print.Ghosts T.Denot) (d : Dict) where
-  pub replay : SettlesOk (replaying_contracts.replay.ended T P d) (λ κs f. Ok f) (replaying.replay.Reads.Learnt T L P d)
+  pub replay : SettlesPart (replaying_contracts.replay.ended T P d) (λ κs r. r.frame) (replaying.replay.Reads.Learnt T L P d)
   replay κs i r s m n p q = (p ∙ sym q, refl)
 
 -- ---- panel

@@ -25,11 +25,11 @@ module _ (T : Ended) where
   abbrev pub SettlesAsked : Asks → Tells T → Type 0
   SettlesAsked Pre Learnt = (κs : Lfts T.signature.lifetimes) (i : Args T.signature κs) → Pre κs i → OneOutcome Learnt κs i
 
-  -- So for a function whose input or output may fail, of its answers of success: `ok` makes the answer of what it promises.
-  abbrev pub SettlesOk : {A : Type 0} → ((κs : Lfts T.signature.lifetimes) → A → Res T.signature κs) → Tells T → Type 0
-  SettlesOk {A} ok Learnt =
-      (κs : Lfts T.signature.lifetimes) (i : Args T.signature κs) (r s : A) (m n : Lasts T κs i)
-      → Learnt κs i (ok κs r) (at_exit T κs i m) → Learnt κs i (ok κs s) (at_exit T κs i n) → (r ≡ s) × (m ≡ n)
+  -- So for what a part of the answer is, where the rest is not the function's own: whether a line could be written.
+  abbrev pub SettlesPart : {A : Type 0} → ((κs : Lfts T.signature.lifetimes) → Res T.signature κs → A) → Tells T → Type 0
+  SettlesPart part Learnt =
+      (κs : Lfts T.signature.lifetimes) (i : Args T.signature κs) (r s : Res T.signature κs) (m n : Lasts T κs i)
+      → Learnt κs i r (at_exit T κs i m) → Learnt κs i s (at_exit T κs i n) → (part κs r ≡ part κs s) × (m ≡ n)
 
   -- For the inputs i the contract rules the answer r out, whatever is left in lent memory.
   abbrev pub RulesOut : Tells T → (κs : Lfts T.signature.lifetimes) → Args T.signature κs → Res T.signature κs → Type 0

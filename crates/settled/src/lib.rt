@@ -1,3 +1,3 @@
-// Every public function's contract allows one outcome only (proofs/Functions.antt): the answer, with what it leaves in lent memory; of the replay,
-// whose lines may fail to be written, that is its answers of success, and what crate `input` reads is left out. There is no code here.
+// Every public function's contract allows one outcome only (proofs/Functions.antt): the answer, with what it leaves in lent memory. Whether the replay
+// could write its lines, and what crate `input` reads, is not theirs to settle. There is no code here.
 #![tactic(auto)]

@@ -30,7 +30,8 @@ use Rattle.records.specs.Limits.{most_jobs, largest_time}
 use Rattle.records.specs.Refusals.{past, Outcome, accepted, refused}
 use Rattle.records.specs.Kinds.{frame_kind, here_kind, either_kind, table_end}
 use Rattle.records.specs.Records.{frame_only, row_only, Parsed, one, last, bad}
-use Rattle.table.specs.Tables.{time_ok, deadline_at, frame_at, here_at, either_at, row_body, job_at, job_parsed, with_deadline, table_of, table_read, empty_table}
+use Rattle.table.specs.Tables.{time_ok, deadline_at, frame_at, here_at, either_at, row_body, job_at, job_parsed}
+use Rattle.table.specs.Tables.{with_deadline, table_of, table_read, empty_table}
 use Rattle.table.specs.Tables.{JobTable, end_verdict, is_whole}
 use Rattle.records.proofs.Records.{row_byte, row_length, frame_kind_lem, row_kind, is_frame, is_row, judged_all}
 use Rattle.records.proofs.Listed.{padded_more}

@@ -1,5 +1,4 @@
--- `choice::base_of` adds up what the first k jobs keep here in any case: the loop's invariant, with the bound that keeps the sum from wrapping.
--- The measure is what is left of the count. Assumes nothing.
+-- `choice::base_of` meets its contract; what its loop keeps stands in Invariants.antt. Assumes nothing.
 use mathlib.Core.Path.{◌≡◌}
 use Prim.Native.Nat.{◌<◌}
 use native.Mathlib.Omega.{arith}

@@ -1,5 +1,4 @@
--- `choice::earliest` keeps the least deadline between `low` and `high`, the loop's invariant, until the two are next to each other.
--- The measure is their distance. Assumes nothing.
+-- `choice::earliest` meets its contract; what its loop keeps stands in Invariants.antt. Assumes nothing.
 use borrow.Author.Rules.{rules}
 use borrow.Author.Tests.{not-true, not-false}
 use native.Mathlib.Omega.{arith}

@@ -1,5 +1,4 @@
--- `choice::flags_of` marks the positions one after another. The loop's invariant: what is left of the mask marks the rest as the whole mask does.
--- The measure is what is left of the count. Assumes nothing.
+-- `choice::flags_of` meets its contract; what its loop keeps stands in Invariants.antt. Assumes nothing.
 use mathlib.Core.Path.{◌∙◌}
 use native.Mathlib.Omega.{arith}
 use lib.Seq.{get_or-take}

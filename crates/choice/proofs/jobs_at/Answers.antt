@@ -1,5 +1,4 @@
--- `choice::jobs_at` puts the jobs at the first k positions in front, and the entries behind them hold no job: the loop's invariant.
--- The measure is what is left of the count. Assumes nothing.
+-- `choice::jobs_at` meets its contract; what its loop keeps stands in Invariants.antt. Assumes nothing.
 use borrow.Author.Rules.{rules}
 use mathlib.Core.Path.{◌≡◌}
 use native.Mathlib.Omega.{arith}

@@ -1,4 +1,4 @@
--- `frame_begin::entries_of` meets its contract: the first i positions are filled. Assumes nothing.
+-- `frame_begin::entries_of` meets its contract; what its loop keeps stands in Invariants.antt. Assumes nothing.
 use lib.Seq.{get_or-take}
 use Rattle.frame_begin.proofs.Filled.{filled_more}
 use mathlib.Core.Path.{◌≡◌, refl, ◌∙◌}

@@ -1,4 +1,4 @@
--- `frame_begin::positions_of` meets its contract: the first k positions are filled. Assumes nothing.
+-- `frame_begin::positions_of` meets its contract; what its loop keeps stands in Invariants.antt. Assumes nothing.
 use mathlib.Core.Path.{◌≡◌, refl, ap, ◌∙◌}
 use native.Mathlib.Omega.{arith}
 use borrow.Author.Rules.{rules}

@@ -1,4 +1,4 @@
--- `frame_begin::step_of` meets its contract: what is still to look at gives the same as the whole. Assumes nothing.
+-- `frame_begin::step_of` meets its contract; what its loop keeps stands in Invariants.antt. Assumes nothing.
 use mathlib.Core.Path.{◌∙◌, sym}
 use native.Mathlib.Omega.{arith}
 use native.Mathlib.Nat.{sub-zero}

@@ -1,4 +1,4 @@
--- `free::away_part` lists the flagged jobs in away order. The loop's invariant: the draft has those among the positions passed. Assumes nothing.
+-- `free::away_part` meets its contract; what its loop keeps stands in Invariants.antt. Assumes nothing.
 use borrow.Author.Rules.{rules}
 use Rattle.free.proofs.Parts.{prepares, away_room, away_more, away_end}
 use Rattle.draft.proofs.Drafts.{listing_begin}

@@ -1,4 +1,4 @@
--- `free::here_part` lists the jobs that are not flagged in table order. The loop's invariant: the draft has those among the jobs passed. Assumes nothing.
+-- `free::here_part` meets its contract; what its loop keeps stands in Invariants.antt. Assumes nothing.
 use borrow.Author.Rules.{rules}
 use Rattle.free.proofs.Parts.{here_room, here_more, here_end}
 use Rattle.draft.proofs.Drafts.{listing_begin}

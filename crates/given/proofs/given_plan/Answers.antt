@@ -1,5 +1,4 @@
--- `given::given_plan` goes through the jobs in table order. The invariant is `Going` of proofs/Going.antt, of the steps and the numbers as a draft.
--- Assumes nothing.
+-- `given::given_plan` meets its contract; what its loop keeps stands in Invariants.antt. Assumes nothing.
 use mathlib.Core.Path.{◌≡◌, refl, sym, ◌∙◌}
 use mathlib.Core.Bool.{false}
 use native.Mathlib.Omega.{arith}

@@ -1,5 +1,4 @@
--- `judge::check_steps` meets its contract. The invariant is `Walked` of proofs/Walk.antt: the steps passed so far are listed and laid.
--- Each way out of a turn is one of its laws; the measure is how many steps are left. Assumes nothing.
+-- `judge::check_steps` meets its contract; what its loop keeps stands in Invariants.antt. Assumes nothing.
 use Prim.Native.Nat.{ℕ, ◌≤◌, ◌<◌}
 use native.Mathlib.Omega.{arith}
 use mathlib.Core.Path.{◌≡◌, sym, ◌∙◌}
@@ -68,8 +67,9 @@ with-laid-requires c = walk_room _ _ _ c.loop-k.invariant c.requires.0.good
 
 pub loop-k-preserved : goal.loop-k-preserved
 loop-k-preserved c =
+    let s = (goal.at.loop-k-preserved c).After-job-1 in
     let e = sym c.is_kept.ensures ∙ c.if-is_kept.false in
-    rw (c.with-laid.ensures, c.step_at-step.ensures) (walk_more _ _ _ c.loop-k.invariant c.loop-k-test.true _ (found (goal.at.loop-k-preserved c).After-job-1) (rw c.step_at-step.ensures at e))
+    rw (c.with-laid.ensures, c.step_at-step.ensures) (walk_more _ _ _ c.loop-k.invariant c.loop-k-test.true _ (found s) (rw c.step_at-step.ensures at e))
 
 pub returns-then-steps-t : goal.returns-then-steps-t
 returns-then-steps-t c =

@@ -28,21 +28,25 @@ module _ (c : Start) where
 
 pub put_field-middle-requires : goal.put_field-middle-requires
 put_field-middle-requires c =
-    room_first (out (goal.at.put_field-middle-requires c).Start) c.args.at (one (goal.at.put_field-middle-requires c).Start) (two (goal.at.put_field-middle-requires c).Start) (room-two (goal.at.put_field-middle-requires c).Start)
+    let s = (goal.at.put_field-middle-requires c).Start in
+    room_first (out s) c.args.at (one s) (two s) (room-two s)
 
 pub put_field-end-requires : goal.put_field-end-requires
 put_field-end-requires c =
-    room_next (out (goal.at.put_field-end-requires c).Start) c.args.at (one (goal.at.put_field-end-requires c).Start) (two (goal.at.put_field-end-requires c).Start) (room-two (goal.at.put_field-end-requires c).Start) c.put_field-middle.ensures
+    let s = (goal.at.put_field-end-requires c).Start in
+    room_next (out s) c.args.at (one s) (two s) (room-two s) c.put_field-middle.ensures
 
 pub put-requires : goal.put-requires
 put-requires c =
-    room_next (out (goal.at.put-requires c).Start) c.args.at (one (goal.at.put-requires c).Start ++ two (goal.at.put-requires c).Start) newline (room (goal.at.put-requires c).Start)
-    (both (out (goal.at.put-requires c).Start) c.args.at (one (goal.at.put-requires c).Start) (two (goal.at.put-requires c).Start) (room-two (goal.at.put-requires c).Start) c.put_field-middle.ensures
+    let s = (goal.at.put-requires c).Start in
+    room_next (out s) c.args.at (one s ++ two s) newline (room s)
+    (both (out s) c.args.at (one s) (two s) (room-two s) c.put_field-middle.ensures
     c.put_field-end.ensures)
 
 pub returns : goal.returns
 returns c =
+    let s = (goal.at.returns c).Start in
     rw pair_parts
-    (both (out (goal.at.returns c).Start) c.args.at (one (goal.at.returns c).Start ++ two (goal.at.returns c).Start) newline (room (goal.at.returns c).Start)
-    (both (out (goal.at.returns c).Start) c.args.at (one (goal.at.returns c).Start) (two (goal.at.returns c).Start) (room-two (goal.at.returns c).Start) c.put_field-middle.ensures c.put_field-end.ensures)
+    (both (out s) c.args.at (one s ++ two s) newline (room s)
+    (both (out s) c.args.at (one s) (two s) (room-two s) c.put_field-middle.ensures c.put_field-end.ensures)
     c.put.ensures)

@@ -35,8 +35,9 @@ module _ (s : Start) (said : Said) (e : said ≡ said_by (refusal_says s.args.f)
 
 pub put_pair-requires : goal.put_pair-requires
 put_pair-requires c =
-    let room = whole_room (goal.at.put_pair-requires c).Start c.numbers_of-said.result c.numbers_of-said.ensures (search rules) (search rules) in
-    placed-room (goal.at.put_pair-requires c).Start c.numbers_of-said.result c.numbers_of-said.ensures room c.if-said.true
+    let s = (goal.at.put_pair-requires c).Start in
+    let room = whole_room s c.numbers_of-said.result c.numbers_of-said.ensures (search rules) (search rules) in
+    placed-room s c.numbers_of-said.result c.numbers_of-said.ensures room c.if-said.true
 
 pub returns-then-said : goal.returns-then-said
 returns-then-said c =
@@ -45,19 +46,24 @@ returns-then-said c =
 
 pub put_field-end-requires : goal.put_field-end-requires
 put_field-end-requires c =
-    let room = whole_room (goal.at.put_field-end-requires c).Start c.numbers_of-said.result c.numbers_of-said.ensures (search rules) (search rules) in
+    let s = (goal.at.put_field-end-requires c).Start in
+    let room = whole_room s c.numbers_of-said.result c.numbers_of-said.ensures (search rules) (search rules) in
     room_first c.args.out.now c.args.at (field c.numbers_of-said.result) newline
-    (bare-room (goal.at.put_field-end-requires c).Start c.numbers_of-said.result c.numbers_of-said.ensures room c.if-said.false)
+    (bare-room s c.numbers_of-said.result c.numbers_of-said.ensures room c.if-said.false)
 
 pub put-requires : goal.put-requires
 put-requires c =
-    let room = whole_room (goal.at.put-requires c).Start c.numbers_of-said.result c.numbers_of-said.ensures (search rules) (search rules) in
-    room_next c.args.out.now c.args.at (field c.numbers_of-said.result) newline (bare-room (goal.at.put-requires c).Start c.numbers_of-said.result c.numbers_of-said.ensures room c.if-said.false)
+    let s = (goal.at.put-requires c).Start in
+    let room = whole_room s c.numbers_of-said.result c.numbers_of-said.ensures (search rules) (search rules) in
+    room_next c.args.out.now c.args.at (field c.numbers_of-said.result) newline
+    (bare-room s c.numbers_of-said.result c.numbers_of-said.ensures room c.if-said.false)
     c.put_field-end.ensures
 
 pub returns : goal.returns
 returns c =
-    let room = whole_room (goal.at.returns c).Start c.numbers_of-said.result c.numbers_of-said.ensures (search rules) (search rules) in
+    let s = (goal.at.returns c).Start in
+    let room = whole_room s c.numbers_of-said.result c.numbers_of-said.ensures (search rules) (search rules) in
     rw (refused_bare (refusal_says c.args.f) c.numbers_of-said.result c.numbers_of-said.ensures c.if-said.false)
-    (both c.args.out.now c.args.at (field c.numbers_of-said.result) newline (bare-room (goal.at.returns c).Start c.numbers_of-said.result c.numbers_of-said.ensures room c.if-said.false)
+    (both c.args.out.now c.args.at (field c.numbers_of-said.result) newline
+    (bare-room s c.numbers_of-said.result c.numbers_of-said.ensures room c.if-said.false)
     c.put_field-end.ensures c.put.ensures)

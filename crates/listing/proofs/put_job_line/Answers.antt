@@ -49,20 +49,24 @@ module _ (c : Start) where
 
 pub put_number-a-requires : goal.put_number-a-requires
 put_number-a-requires c =
-    room_first (out (goal.at.put_number-a-requires c).Start) c.args.at (id (goal.at.put_number-a-requires c).Start) (start (goal.at.put_number-a-requires c).Start) (room-two (goal.at.put_number-a-requires c).Start)
+    let s = (goal.at.put_number-a-requires c).Start in
+    room_first (out s) c.args.at (id s) (start s) (room-two s)
 
 pub put_start-b-requires : goal.put_start-b-requires
 put_start-b-requires c =
-    room_next (out (goal.at.put_start-b-requires c).Start) c.args.at (id (goal.at.put_start-b-requires c).Start) (start (goal.at.put_start-b-requires c).Start) (room-two (goal.at.put_start-b-requires c).Start) c.put_number-a.ensures
+    let s = (goal.at.put_start-b-requires c).Start in
+    room_next (out s) c.args.at (id s) (start s) (room-two s) c.put_number-a.ensures
 
 pub put_pair-requires : goal.put_pair-requires
 put_pair-requires c =
-    rw (added (goal.at.put_pair-requires c).Start c.span_of.result c.wait_of.result c.span_of.ensures.0 c.wait_of.ensures.0) at
-    (room_next (out (goal.at.put_pair-requires c).Start) c.args.at (id (goal.at.put_pair-requires c).Start ++ start (goal.at.put_pair-requires c).Start) (times (goal.at.put_pair-requires c).Start) (room (goal.at.put_pair-requires c).Start) (front (goal.at.put_pair-requires c).Start c.put_number-a.ensures c.put_start-b.ensures))
+    let s = (goal.at.put_pair-requires c).Start in
+    rw (added s c.span_of.result c.wait_of.result c.span_of.ensures.0 c.wait_of.ensures.0) at
+    (room_next (out s) c.args.at (id s ++ start s) (times s) (room s) (front s c.put_number-a.ensures c.put_start-b.ensures))
 
 pub returns : goal.returns
 returns c =
-    let sums = added (goal.at.returns c).Start c.span_of.result c.wait_of.result c.span_of.ensures.0 c.wait_of.ensures.0 in
-    rw (job_parts (what (goal.at.returns c).Start))
-    (both (out (goal.at.returns c).Start) c.args.at (id (goal.at.returns c).Start ++ start (goal.at.returns c).Start) (times (goal.at.returns c).Start) (room (goal.at.returns c).Start) (front (goal.at.returns c).Start c.put_number-a.ensures c.put_start-b.ensures)
+    let s = (goal.at.returns c).Start in
+    let sums = added s c.span_of.result c.wait_of.result c.span_of.ensures.0 c.wait_of.ensures.0 in
+    rw (job_parts (what s))
+    (both (out s) c.args.at (id s ++ start s) (times s) (room s) (front s c.put_number-a.ensures c.put_start-b.ensures)
     (rw sums c.put_pair.ensures))

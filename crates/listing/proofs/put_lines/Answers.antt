@@ -1,5 +1,4 @@
--- `listing::put_lines` meets its contract. The invariant: the lines that are left, written where they belong, give all of them written;
--- a span has at most 65,535 ticks, so no start wraps. The measure is how many steps are left. Assumes nothing.
+-- `listing::put_lines` meets its contract; what its loop keeps stands in Invariants.antt. Assumes nothing.
 use Prim.Native.Nat.{◌≤◌}
 use native.Mathlib.Omega.{arith}
 use mathlib.Core.Path.{◌≡◌, refl, ◌∙◌}
@@ -39,7 +38,8 @@ put_job_line-at-requires c =
     let jobs = (job_table c.args.t).jobs in
     let step = get_or-take c.args.plan.count c.args.plan.steps c.loop-i.i no_step (omega arith) in (
       omega (arith, c.loop-i.invariant.early),
-      line_room jobs (steps_of c.args.plan) c.loop-i.i (omega arith) _ step _ (found (goal.at.put_job_line-at-requires c).After-job_at-job) c.loop-i.start c.requires.2 c.loop-i.invariant,
+      line_room jobs (steps_of c.args.plan) c.loop-i.i (omega arith) _ step _
+          (found (goal.at.put_job_line-at-requires c).After-job_at-job) c.loop-i.start c.requires.2 c.loop-i.invariant,
     )
 
 pub loop-i-preserved : goal.loop-i-preserved
@@ -47,7 +47,8 @@ loop-i-preserved c =
     let size = counted (goal.at.loop-i-preserved c).Start in
     let jobs = (job_table c.args.t).jobs in
     let step = get_or-take c.args.plan.count c.args.plan.steps c.loop-i.i no_step (omega arith) in
-    kept_more jobs (steps_of c.args.plan) c.loop-i.i (omega arith) _ step _ (found (goal.at.loop-i-preserved c).After-job_at-job) c.loop-i.start c.requires.2 c.loop-i.invariant
+    kept_more jobs (steps_of c.args.plan) c.loop-i.i (omega arith) _ step _
+    (found (goal.at.loop-i-preserved c).After-job_at-job) c.loop-i.start c.requires.2 c.loop-i.invariant
     c.span_of.ensures.0 c.span_of.ensures.1 c.put_job_line-at.ensures
 
 pub returns : goal.returns

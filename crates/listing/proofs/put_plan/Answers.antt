@@ -39,17 +39,21 @@ module _ (c : Start) where
 
 pub put_pair-a-requires : goal.put_pair-a-requires
 put_pair-a-requires c =
-    room_first (out (goal.at.put_pair-a-requires c).Start) 0 (one (goal.at.put_pair-a-requires c).Start) (two (goal.at.put_pair-a-requires c).Start) (room-two (goal.at.put_pair-a-requires c).Start)
+    let s = (goal.at.put_pair-a-requires c).Start in
+    room_first (out s) 0 (one s) (two s) (room-two s)
 
 pub put_lines-b-requires : goal.put_lines-b-requires
 put_lines-b-requires c =
-    (search rules, search rules, room_next (out (goal.at.put_lines-b-requires c).Start) 0 (one (goal.at.put_lines-b-requires c).Start) (two (goal.at.put_lines-b-requires c).Start) (room-two (goal.at.put_lines-b-requires c).Start) c.put_pair-a.ensures)
+    let s = (goal.at.put_lines-b-requires c).Start in
+    (search rules, search rules, room_next (out s) 0 (one s) (two s) (room-two s) c.put_pair-a.ensures)
 
 pub put_pair-requires : goal.put_pair-requires
 put_pair-requires c =
-    room_next (out (goal.at.put_pair-requires c).Start) 0 (one (goal.at.put_pair-requires c).Start ++ two (goal.at.put_pair-requires c).Start) (three (goal.at.put_pair-requires c).Start) (room (goal.at.put_pair-requires c).Start) (front (goal.at.put_pair-requires c).Start c.put_pair-a.ensures c.put_lines-b.ensures)
+    let s = (goal.at.put_pair-requires c).Start in
+    room_next (out s) 0 (one s ++ two s) (three s) (room s) (front s c.put_pair-a.ensures c.put_lines-b.ensures)
 
 pub returns : goal.returns
 unfolding draft_text
 returns c =
-    both (out (goal.at.returns c).Start) 0 (one (goal.at.returns c).Start ++ two (goal.at.returns c).Start) (three (goal.at.returns c).Start) (room (goal.at.returns c).Start) (front (goal.at.returns c).Start c.put_pair-a.ensures c.put_lines-b.ensures) c.put_pair.ensures
+    let s = (goal.at.returns c).Start in
+    both (out s) 0 (one s ++ two s) (three s) (room s) (front s c.put_pair-a.ensures c.put_lines-b.ensures) c.put_pair.ensures

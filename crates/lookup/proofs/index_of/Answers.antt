@@ -1,5 +1,4 @@
--- `lookup::index_of` meets its contract. The invariant: the jobs from the i-th on are indexed (`Tail` of proofs/Lookup.antt).
--- The measure is how many are left. Assumes nothing.
+-- `lookup::index_of` meets its contract; what its loop keeps stands in Invariants.antt. Assumes nothing.
 use Prim.Native.Nat.{ℕ, ◌+◌, ◌-◌, ◌<◌}
 use native.Mathlib.Omega.{arith}
 use mathlib.Core.Path.{◌≡◌, ap, subst}
@@ -33,10 +32,12 @@ loop-i-init c = record { within = omega arith; so = tail_begin _ _ (omega (arith
 
 pub loop-i-preserved : goal.loop-i-preserved
 loop-i-preserved c =
+    let s = (goal.at.loop-i-preserved c).Start in
     let next : c.loop-i.i - 1 + 1 ≡ c.loop-i.i = omega arith in
     record {
       within = omega (arith, c.loop-i.invariant.within);
-      so = one_more c.args.t (c.loop-i.i - 1) c.loop-i.index (counted (goal.at.loop-i-preserved c).Start) (omega (arith, c.loop-i.invariant.within)) (search rules) (rw next c.loop-i.invariant.so);
+      so = one_more c.args.t (c.loop-i.i - 1) c.loop-i.index (counted s) (omega (arith, c.loop-i.invariant.within)) (search rules)
+          (rw next c.loop-i.invariant.so);
     }
 
 pub returns : goal.returns

@@ -1,5 +1,4 @@
--- `octets::put` meets its contract. The invariant: what is still to write, written where it belongs, gives the whole word written.
--- The measure is what is left of the word. Assumes nothing.
+-- `octets::put` meets its contract; what its loop keeps stands in Invariants.antt. Assumes nothing.
 use native.Mathlib.Nat.{add-zero}
 use native.Mathlib.Omega.{arith}
 use mathlib.Core.Path.{refl, ◌∙◌}

@@ -1,5 +1,4 @@
--- `octets::put_hex` meets its contract. The invariant: the digits still to write, written in front of those that stand, give all eight written.
--- The measure is how many are left. Assumes nothing.
+-- `octets::put_hex` meets its contract; what its loop keeps stands in Invariants.antt. Assumes nothing.
 use mathlib.Core.Path.{refl, sym, ◌∙◌}
 use native.Mathlib.Omega.{arith}
 use lib.ListN.{length-set}
@@ -16,7 +15,8 @@ loop-count-preserved c =
     record {
       within = search rules;
       size = rw length-set c.loop-count.invariant.size;
-      rest = one_more c.loop-count.out c.args.at c.loop-count.count c.loop-count.left _ c.loop-count-test.true (search rules) c.hex_digit.ensures ∙ c.loop-count.invariant.rest;
+      rest = one_more c.loop-count.out c.args.at c.loop-count.count c.loop-count.left _ c.loop-count-test.true (search rules) c.hex_digit.ensures
+          ∙ c.loop-count.invariant.rest;
     }
 
 pub returns : goal.returns

@@ -1,5 +1,4 @@
--- `plan::read_plan` meets its contract. The invariant is `SoFar` of crate table: the steps read so far, and that what is still to
--- do gives the same as the whole. Each way out of a turn is one of its laws; the measure is how many records may still come. Assumes nothing.
+-- `plan::read_plan` meets its contract; what its loop keeps stands in Invariants.antt. Assumes nothing.
 use Prim.Native.Nat.{◌<◌}
 use native.Mathlib.Omega.{arith}
 use mathlib.Core.Path.{◌≡◌, sym, ap, ◌∙◌}
@@ -41,7 +40,8 @@ returns-in_default c =
 pub returns-then-seen-id : goal.returns-then-seen-id
 unfolding read_plan
 returns-then-seen-id c =
-    ap plan_read (so_far_twice _ _ _ c.loop-record.invariant.so (listed (goal.at.returns-then-seen-id c).After-struct_known-1) (omega arith) c.if-seen-id.true)
+    let s = (goal.at.returns-then-seen-id c).After-struct_known-1 in
+    ap plan_read (so_far_twice _ _ _ c.loop-record.invariant.so (listed s) (omega arith) c.if-seen-id.true)
 
 pub overflow_add-count : goal.overflow_add-count
 overflow_add-count c = omega (arith, room (goal.at.overflow_add-count c).After-struct_known-1)
@@ -51,9 +51,10 @@ loop-record-smaller c = omega (arith, room (goal.at.loop-record-smaller c).After
 
 pub loop-record-preserved : goal.loop-record-preserved
 loop-record-preserved c =
+    let s = (goal.at.loop-record-preserved c).After-struct_known-1 in
     record {
       xs = c.loop-record.invariant.xs ++ (c.in-Listed.step ∷ []);
-      so = so_far_more _ _ _ c.loop-record.invariant.so (listed (goal.at.loop-record-preserved c).After-struct_known-1) (omega arith) (room (goal.at.loop-record-preserved c).After-struct_known-1) c.if-seen-id.false;
+      so = so_far_more _ _ _ c.loop-record.invariant.so (listed s) (omega arith) (room s) c.if-seen-id.false;
     }
 
 pub returns-in-Last : goal.returns-in-Last
@@ -64,4 +65,5 @@ returns-in-Last c =
     (sym c.record_at-answer.ensures ∙
     (c.in-RecordIs.is ∙ ap RecordIs c.in-Last.is)) in
     c.ended_at.ensures ∙
-    rw c.loop-record.invariant.so.counted (ended_count c.args.s.now c.loop-record.invariant.xs c.in-Last.next ∙ ap plan_read (so_far_ended _ _ _ c.loop-record.invariant.so read))
+    rw c.loop-record.invariant.so.counted (ended_count c.args.s.now c.loop-record.invariant.xs c.in-Last.next
+    ∙ ap plan_read (so_far_ended _ _ _ c.loop-record.invariant.so read))

@@ -1,5 +1,4 @@
--- `plan::write_plan` meets its contract. The invariant: what is still to write, written where it belongs, gives the whole plan written
--- at the front. The measure is how many steps are left. Assumes nothing.
+-- `plan::write_plan` meets its contract; what its loop keeps stands in Invariants.antt. Assumes nothing.
 use native.Mathlib.Omega.{arith}
 use mathlib.Core.Path.{◌≡◌, refl, sym, ap, ◌∙◌}
 use lib.ListN.{length, drop}
@@ -23,7 +22,8 @@ loop-i-init c = record { within = search rules; reached = search rules; size = r
 
 pub loop-i-preserved : goal.loop-i-preserved
 loop-i-preserved c =
-    let size = counted (goal.at.loop-i-preserved c).Start in
+    let s = (goal.at.loop-i-preserved c).Start in
+    let size = counted s in
     let more : plan_bytes (drop c.loop-i.i (steps_of c.args.plan)) ≡ _ =
     rw (get_or-take c.args.plan.count c.args.plan.steps c.loop-i.i no_step (omega arith)) at (bytes_more (steps_of c.args.plan) c.loop-i.i (omega arith)) in
     record {
@@ -36,9 +36,11 @@ loop-i-preserved c =
 
 pub returns : goal.returns
 returns c =
+    let s = (goal.at.returns c).Start in
     let xs = steps_of c.args.plan in
-    let size = counted (goal.at.returns c).Start in (
+    let size = counted s in (
       omega (arith, c.put.ensures.place, plan_length xs),
       c.put.ensures.area ∙
-          (ap (written c.loop-i.area c.loop-i.at) (sym (bytes_done xs c.loop-i.i (omega arith))) ∙ (c.loop-i.invariant.rest ∙ written_front c.args.area.now (plan_bytes xs))),
+          (ap (written c.loop-i.area c.loop-i.at) (sym (bytes_done xs c.loop-i.i (omega arith)))
+          ∙ (c.loop-i.invariant.rest ∙ written_front c.args.area.now (plan_bytes xs))),
     )

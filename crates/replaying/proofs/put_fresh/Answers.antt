@@ -33,15 +33,18 @@ room s bits small =
 
 pub put_field-end-requires : goal.put_field-end-requires
 put_field-end-requires c =
-    room_first (out (goal.at.put_field-end-requires c).Start) c.args.at (field (goal.at.put_field-end-requires c).Start) (pattern_text 0) (room (goal.at.put_field-end-requires c).Start 0 (search rules))
+    let s = (goal.at.put_field-end-requires c).Start in
+    room_first (out s) c.args.at (field s) (pattern_text 0) (room s 0 (search rules))
 
 pub put_pattern-requires : goal.put_pattern-requires
 put_pattern-requires c =
-    omega (arith, room_next (out (goal.at.put_pattern-requires c).Start) c.args.at (field (goal.at.put_pattern-requires c).Start) (pattern_text 0) (room (goal.at.put_pattern-requires c).Start 0 (search rules)) c.put_field-end.ensures, pattern-length 0)
+    let s = (goal.at.put_pattern-requires c).Start in
+    omega (arith, room_next (out s) c.args.at (field s) (pattern_text 0) (room s 0 (search rules)) c.put_field-end.ensures, pattern-length 0)
 
 pub returns : goal.returns
 unfolding fresh_text
 returns c =
+    let s = (goal.at.returns c).Start in
     rw (← c.pattern_of-bits.ensures)
-    (both (out (goal.at.returns c).Start) c.args.at (field (goal.at.returns c).Start) (pattern_text c.pattern_of-bits.result) (room (goal.at.returns c).Start c.pattern_of-bits.result (search rules)) c.put_field-end.ensures
+    (both (out s) c.args.at (field s) (pattern_text c.pattern_of-bits.result) (room s c.pattern_of-bits.result (search rules)) c.put_field-end.ensures
     c.put_pattern.ensures)

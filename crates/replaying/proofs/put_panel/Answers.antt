@@ -18,11 +18,13 @@ room s v small h =
 
 pub put_number-end-requires : goal.put_number-end-requires
 put_number-end-requires c =
-    room_first c.args.out.now c.args.at (decimal c.args.id) away_end (room (goal.at.put_number-end-requires c).Start away_end (search rules) (omega arith))
+    let s = (goal.at.put_number-end-requires c).Start in
+    room_first c.args.out.now c.args.at (decimal c.args.id) away_end (room s away_end (search rules) (omega arith))
 
 pub put-requires : goal.put-requires
 put-requires c =
-    room_next c.args.out.now c.args.at (decimal c.args.id) away_end (room (goal.at.put-requires c).Start away_end (search rules) (omega arith)) c.put_number-end.ensures
+    let s = (goal.at.put-requires c).Start in
+    room_next c.args.out.now c.args.at (decimal c.args.id) away_end (room s away_end (search rules) (omega arith)) c.put_number-end.ensures
 
 pub returns-then-away : goal.returns-then-away
 returns-then-away c =
@@ -32,7 +34,8 @@ returns-then-away c =
 
 pub put-requires-2 : goal.put-requires-2
 put-requires-2 c =
-    room_next c.args.out.now c.args.at (decimal c.args.id) here_end (room (goal.at.put-requires-2 c).Start here_end (search rules) (omega arith)) c.put_number-end.ensures
+    let s = (goal.at.put-requires-2 c).Start in
+    room_next c.args.out.now c.args.at (decimal c.args.id) here_end (room s here_end (search rules) (omega arith)) c.put_number-end.ensures
 
 pub returns : goal.returns
 returns c =

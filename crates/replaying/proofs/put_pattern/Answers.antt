@@ -34,9 +34,11 @@ module _ (s : Start) where
 
 pub put-requires : goal.put-requires
 put-requires c =
-    room_next (out (goal.at.put-requires c).Start) c.args.at (space ++ digits (goal.at.put-requires c).Start) newline (room (goal.at.put-requires c).Start) (front (goal.at.put-requires c).Start c.put-a.ensures c.put_hex-b.ensures)
+    let s = (goal.at.put-requires c).Start in
+    room_next (out s) c.args.at (space ++ digits s) newline (room s) (front s c.put-a.ensures c.put_hex-b.ensures)
 
 pub returns : goal.returns
 unfolding pattern_text
 returns c =
-    both (out (goal.at.returns c).Start) c.args.at (space ++ digits (goal.at.returns c).Start) newline (room (goal.at.returns c).Start) (front (goal.at.returns c).Start c.put-a.ensures c.put_hex-b.ensures) c.put.ensures
+    let s = (goal.at.returns c).Start in
+    both (out s) c.args.at (space ++ digits s) newline (room s) (front s c.put-a.ensures c.put_hex-b.ensures) c.put.ensures

@@ -23,13 +23,16 @@ room s small =
 
 pub put_field-end-requires : goal.put_field-end-requires
 put_field-end-requires c =
-    room_first c.args.out.now 0 (field (goal.at.put_field-end-requires c).Start) newline (room (goal.at.put_field-end-requires c).Start (search rules))
+    let s = (goal.at.put_field-end-requires c).Start in
+    room_first c.args.out.now 0 (field s) newline (room s (search rules))
 
 pub put-requires : goal.put-requires
 put-requires c =
-    room_next c.args.out.now 0 (field (goal.at.put-requires c).Start) newline (room (goal.at.put-requires c).Start (search rules)) c.put_field-end.ensures
+    let s = (goal.at.put-requires c).Start in
+    room_next c.args.out.now 0 (field s) newline (room s (search rules)) c.put_field-end.ensures
 
 pub returns : goal.returns
 unfolding stopped_line
 returns c =
-    both c.args.out.now 0 (field (goal.at.returns c).Start) newline (room (goal.at.returns c).Start (search rules)) c.put_field-end.ensures c.put.ensures
+    let s = (goal.at.returns c).Start in
+    both c.args.out.now 0 (field s) newline (room s (search rules)) c.put_field-end.ensures c.put.ensures

@@ -1,5 +1,4 @@
--- `replaying::replay` meets its contract: a turn of the loop is a turn of `frame_from` (proofs/Turns.antt). The measure is what is left of the log.
--- Assumes nothing.
+-- `replaying::replay` meets its contract; what its loop keeps stands in Invariants.antt. Assumes nothing.
 use native.Mathlib.Omega.{arith}
 use mathlib.Core.Path.{ap, ◌∙◌}
 use lib.ListN.{length}
@@ -13,18 +12,18 @@ loop-at-init g c = starts c.args.log.now c.idle-frame.result
 
 pub overflow_add-at : goal.overflow_add-at
 overflow_add-at g c =
-    let m = moved c.args.log.now c.loop-at.at c.loop-at-test.true c.loop-at.frame _ c.in_ok-turn.ensures in
+    let m = moved c.args.log.now c.loop-at.at c.loop-at-test.true c.loop-at.frame _ c.print_line-after.ensures in
     omega (arith, m.1)
 
 pub loop-at-smaller : goal.loop-at-smaller
 loop-at-smaller g c =
-    let m = moved c.args.log.now c.loop-at.at c.loop-at-test.true c.loop-at.frame _ c.in_ok-turn.ensures in
+    let m = moved c.args.log.now c.loop-at.at c.loop-at-test.true c.loop-at.frame _ c.print_line-after.ensures in
     omega (arith, m.0, m.1)
 
 pub loop-at-preserved : goal.loop-at-preserved
 loop-at-preserved g c =
-    turn c.args.log.now c.loop-at.at c.loop-at-test.true c.idle-frame.result c.loop-at.frame c.in_ok-turn.turn c.loop-at.invariant
-    c.in_ok-turn.ensures
+    turn c.args.log.now c.loop-at.at c.loop-at-test.true c.idle-frame.result c.loop-at.frame c.print_line-after.result.0 c.loop-at.invariant
+    c.print_line-after.ensures
 
 pub returns : goal.returns
 unfolding replayed

@@ -1,5 +1,4 @@
--- `rows::best` gives the best of all columns. The loop's invariant: what was found is the best of the columns passed.
--- Assumes nothing.
+-- `rows::best` meets its contract; what its loop keeps stands in Invariants.antt. Assumes nothing.
 use mathlib.Core.Path.{◌≡◌, refl}
 use Prim.Native.Nat.{suc}
 use native.Mathlib.Numerals.{add-one}

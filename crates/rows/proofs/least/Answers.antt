@@ -1,5 +1,4 @@
--- `rows::least` adds the jobs one after another, and takes the best of all columns. The loop's invariant: the rows hold the jobs added so far.
--- Assumes nothing.
+-- `rows::least` meets its contract; what its loop keeps stands in Invariants.antt. Assumes nothing.
 use mathlib.Core.Path.{◌≡◌, refl}
 use Prim.Native.Nat.{zero}
 use native.Mathlib.Omega.{arith}

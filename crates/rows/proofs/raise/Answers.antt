@@ -1,5 +1,4 @@
--- `rows::raise` adds the same in each column of a range. The loop's invariant: the columns passed are changed, and no other.
--- Assumes nothing.
+-- `rows::raise` meets its contract; what its loop keeps stands in Invariants.antt. Assumes nothing.
 use mathlib.Core.Path.{◌≡◌, ap}
 use mathlib.Core.Logic.{inr}
 use Prim.Native.Nat.{ℕ, ◌+◌}

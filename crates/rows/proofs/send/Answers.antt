@@ -1,5 +1,4 @@
--- `rows::send` goes from the highest column down, and each takes the lower of two. The loop's invariant: the columns passed are changed, and no other.
--- Assumes nothing.
+-- `rows::send` meets its contract; what its loop keeps stands in Invariants.antt. Assumes nothing.
 use mathlib.Core.Path.{◌≡◌}
 use mathlib.Core.Logic.{inl}
 use Prim.Native.Nat.{◌-◌}

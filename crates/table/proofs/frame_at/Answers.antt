@@ -42,7 +42,11 @@ returns-then-s-at-2 c =
 
 pub two_at-d-requires : goal.two_at-d-requires
 two_at-d-requires c =
-    omega (arith, ap (λ (f : Form). f.body) c.form_of-form.ensures, (frame_kind_lem _ (sym (ap (λ (f : Form). f.meaning) c.form_of-form.ensures) ∙ c.in-Frame.is)).1)
+    omega (
+      arith,
+      ap (λ (f : Form). f.body) c.form_of-form.ensures,
+      (frame_kind_lem _ (sym (ap (λ (f : Form). f.meaning) c.form_of-form.ensures) ∙ c.in-Frame.is)).1,
+    )
 
 pub returns-then-d-eq0 : goal.returns-then-d-eq0
 returns-then-d-eq0 c =
@@ -51,8 +55,9 @@ returns-then-d-eq0 c =
 
 pub returns-then-d-gt-LARGEST_TIME : goal.returns-then-d-gt-LARGEST_TIME
 returns-then-d-gt-LARGEST_TIME c =
+    let s = (goal.at.returns-then-d-gt-LARGEST_TIME c).After-past-next in
     let above : 0 < c.two_at-d.result = omega arith in
-    sym (opens (goal.at.returns-then-d-gt-LARGEST_TIME c).After-past-next ∙ simp (← c.two_at-d.ensures, lt-ltb _ _ above, lt-leb _ _ c.if-d-gt-LARGEST_TIME.true))
+    sym (opens s ∙ simp (← c.two_at-d.ensures, lt-ltb _ _ above, lt-leb _ _ c.if-d-gt-LARGEST_TIME.true))
 
 pub returns : goal.returns
 returns c =

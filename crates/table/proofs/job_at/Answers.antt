@@ -64,8 +64,9 @@ returns-in-EndRow c = sym (opens (goal.at.returns-in-EndRow c).After-past-next �
 
 pub returns-else-count-ge-MOST_JOBS : goal.returns-else-count-ge-MOST_JOBS
 returns-else-count-ge-MOST_JOBS c =
+    let s = (goal.at.returns-else-count-ge-MOST_JOBS c).After-past-next in
     sym
-    (opens (goal.at.returns-else-count-ge-MOST_JOBS c).After-past-next ∙ simp (c.in-HereRow.is, lt-ltb _ _ c.if-count-ge-MOST_JOBS.false) (sym c.here_job.ensures))
+    (opens s ∙ simp (c.in-HereRow.is, lt-ltb _ _ c.if-count-ge-MOST_JOBS.false) (sym c.here_job.ensures))
 
 pub returns-else-count-ge-MOST_JOBS-2 : goal.returns-else-count-ge-MOST_JOBS-2
 returns-else-count-ge-MOST_JOBS-2 c =

@@ -1,5 +1,4 @@
--- `table::table_from` meets its contract. The invariant is `SoFar` of proofs/Listed.antt: the jobs read so far, and that what is still to
--- do gives the same as the whole. Each way out of a turn is one of its laws; the measure is how many records may still come. Assumes nothing.
+-- `table::table_from` meets its contract; what its loop keeps stands in Invariants.antt. Assumes nothing.
 use Prim.Native.Nat.{◌<◌}
 use native.Mathlib.Omega.{arith}
 use mathlib.Core.Path.{◌≡◌, sym, ap, subst, ◌∙◌}
@@ -15,7 +14,7 @@ use Rattle.table.proofs.table_from.Goals.{After-struct_known-1, Joined-first}
 use Rattle.table.proofs.table_from.Goals.{in-FrameRefused, in-FrameIs+in-JobIs+then-seen-id, in-FrameIs+in-JobsEnd, in-FrameIs+in-JobRefused}
 use Rattle.table.proofs.table_from.Goals as goal
 
--- a job was c.j-1.given.0 at the place
+-- a job was read at the place
 listed :
     (c : After-struct_known-1) →
     row_parsed c.args.s.now c.loop-j.p c.loop-j.t.count ≡ one c.in-JobIs.j c.in-JobIs.after
@@ -25,7 +24,7 @@ listed c = ap job_parsed (sym c.job_at.ensures ∙ c.in-JobIs.is)
 room : (c : After-struct_known-1) → c.loop-j.t.count < most_jobs
 room c = row_few (row_is _ _ _ (listed c))
 
--- the frame record is refused; or the loop ends at an id that was seen, at the end record, or at c.args record that is refused
+-- the frame record is refused; or the loop ends at an id that was seen, at the end record, or at a record that is refused
 judged : (c : Joined-first) →
     Judged (after_frame c.args.s.now c.args.first) c.match-first.verdict c.match-first.t
 unfolding jobs_read
@@ -35,7 +34,8 @@ judged c =
       | in-FrameIs+in-JobIs+then-seen-id w ↦
           subst (λ (a : FrameRead). Judged (after_frame c.args.s.now a) c.match-first.verdict c.match-first.t) (sym w.in-FrameIs.is)
           (judged_refused _ w.verdict-is
-          (ap (with_deadline _) (so_far_twice _ _ _ w.loop-j.invariant.so (ap job_parsed (sym w.job_at.ensures ∙ w.in-JobIs.is)) (omega arith) w.if-seen-id.true)))
+          (ap (with_deadline _) (so_far_twice _ _ _ w.loop-j.invariant.so (ap job_parsed (sym w.job_at.ensures ∙ w.in-JobIs.is))
+          (omega arith) w.if-seen-id.true)))
       | in-FrameIs+in-JobsEnd w ↦
           subst (λ (a : FrameRead). Judged (after_frame c.args.s.now a) c.match-first.verdict c.match-first.t) (sym w.in-FrameIs.is)
           (judged_ended _ w.loop-j.invariant.js c.args.s.now _ (w.verdict-is ∙ w.ended_at.ensures) (w.t-is ∙ w.loop-j.invariant.held)
@@ -63,10 +63,11 @@ loop-j-smaller c = omega (arith, room (goal.at.loop-j-smaller c).After-struct_kn
 
 pub loop-j-preserved : goal.loop-j-preserved
 loop-j-preserved c =
+    let s = (goal.at.loop-j-preserved c).After-struct_known-1 in
     record {
       js = c.loop-j.invariant.js ++ (c.in-JobIs.j ∷ []);
-      held = table_more c.loop-j.t _ c.loop-j.invariant.js c.in-JobIs.j c.loop-j.invariant.held (rw (← c.loop-j.invariant.so.counted) (room (goal.at.loop-j-preserved c).After-struct_known-1));
-      so = so_far_more _ _ _ c.loop-j.invariant.so (listed (goal.at.loop-j-preserved c).After-struct_known-1) (omega arith) (room (goal.at.loop-j-preserved c).After-struct_known-1) c.if-seen-id.false;
+      held = table_more c.loop-j.t _ c.loop-j.invariant.js c.in-JobIs.j c.loop-j.invariant.held (rw (← c.loop-j.invariant.so.counted) (room s));
+      so = so_far_more _ _ _ c.loop-j.invariant.so (listed s) (omega arith) (room s) c.if-seen-id.false;
     }
 
 pub returns-then-not-is_whole : goal.returns-then-not-is_whole

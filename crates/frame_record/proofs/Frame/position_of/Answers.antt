@@ -1,4 +1,4 @@
--- `frame_record::Frame::position_of` meets its contract: what is still to look at gives the same as the whole. Assumes nothing.
+-- `frame_record::Frame::position_of` meets its contract; what its loop keeps stands in Invariants.antt. Assumes nothing.
 use mathlib.Core.Path.{◌∙◌, sym}
 use native.Mathlib.Nat.{sub-zero}
 use borrow.Author.Rules.{rules}

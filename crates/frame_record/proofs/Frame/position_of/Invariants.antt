@@ -6,7 +6,9 @@ use Rattle.frame_record.specs.Sound.{none, entry_id}
 use Rattle.frame_record.proofs.Frame.position_of.Given as goal
 
 abbrev pub invariant-loop-i : goal.invariant-loop-i
-invariant-loop-i l = (l.i ≤ l.count) × (first entry_id none l.self.entries l.id 0 l.self.count ≡ first entry_id none l.self.entries l.id l.i (l.self.count - l.i))
+invariant-loop-i l =
+    (l.i ≤ l.count)
+    × (first entry_id none l.self.entries l.id 0 l.self.count ≡ first entry_id none l.self.entries l.id l.i (l.self.count - l.i))
 
 abbrev pub decreases-loop-i : goal.decreases-loop-i
 decreases-loop-i l = l.count - l.i

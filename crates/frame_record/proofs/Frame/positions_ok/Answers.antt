@@ -1,4 +1,4 @@
--- `frame_record::Frame::positions_ok` meets its contract: `Going` of proofs/Marks.antt is kept, and each way out of a turn is one of its laws. Assumes nothing.
+-- `frame_record::Frame::positions_ok` meets its contract; what its loop keeps stands in Invariants.antt. Assumes nothing.
 use mathlib.Core.Path.{sym, ◌∙◌}
 use native.Mathlib.Omega.{arith}
 use borrow.Author.Rules.{rules}
