@@ -73,17 +73,20 @@ fresh_later = refl
 
 fresh_closed : reads closed 1 ≡ Read (Fresh own)
 unfolding reads marked.E read_table frame_at jobs_read job_at judged form_of list_from used read_plan record_at with_key listed lacks_one begin_step begun
-    entries_of positions_of away_in filled first sound? open? begun? ready? ok_begun ok_from ok_at ok_order ok_id span_step back_step close_step read_of where_is
+    entries_of positions_of away_in filled first sound? open? begun? ready? ok_begun ok_from ok_at ok_order ok_id span_step back_step close_step read_of
+    where_is
 fresh_closed = refl
 
 begun_next : (begin_step closed marked.E plan_e 2).answer ≡ Done
 unfolding marked.E read_table frame_at jobs_read job_at judged form_of list_from used read_plan record_at with_key listed lacks_one begin_step begun
-    entries_of positions_of away_in filled first sound? open? begun? ready? ok_begun ok_from ok_at ok_order ok_id span_step back_step close_step read_of where_is
+    entries_of positions_of away_in filled first sound? open? begun? ready? ok_begun ok_from ok_at ok_order ok_id span_step back_step close_step read_of
+    where_is
 begun_next = refl
 
 pending_next : reads (begin_step closed marked.E plan_e 2).frame 1 ≡ Read Pending
 unfolding reads marked.E read_table frame_at jobs_read job_at judged form_of list_from used read_plan record_at with_key listed lacks_one begin_step begun
-    entries_of positions_of away_in filled first sound? open? begun? ready? ok_begun ok_from ok_at ok_order ok_id span_step back_step close_step read_of where_is
+    entries_of positions_of away_in filled first sound? open? begun? ready? ok_begun ok_from ok_at ok_order ok_id span_step back_step close_step read_of
+    where_is
 pending_next = refl
 
 panel_first : (event_step opened E.Next).answer ≡ Panel 1 true
