@@ -5,7 +5,7 @@ use native.Mathlib.Omega.{arith}
 use mathlib.Core.Path.{◌≡◌, refl, sym, ap, subst, ◌∙◌}
 use mathlib.Core.List.Permᴰ
 use mathlib.Core.List.{List, [], ◌∷◌, Permᴰ}
-use mathlib.Core.Option.{some}
+use Rattle.std.specs.Prelude.{Some}
 use lib.ListN.{length, take, drop, length-map}
 use lib.Seq.{take_at}
 use Rattle.model.specs.declared.Job.{Job}
@@ -145,7 +145,7 @@ module _ (s : List ℕ) (bytes : All Byte s) (before : List ℕ) (r : Planned) (
 
   -- The given order: and it is Algorithm 1's plan.
   pub given_writes : GivenAllows s before r after →
-      (t : JobTable) × (xs : List Chosen) × TableIs s (accepted t) × PlanStands InOrder t xs before after n b l × (given t.deadline 0 t.jobs ≡ some xs)
+      (t : JobTable) × (xs : List Chosen) × TableIs s (accepted t) × PlanStands InOrder t xs before after n b l × (given t.deadline 0 t.jobs ≡ Some xs)
   given_writes allows =
       let p = behind s bytes allows says in
       let D = p.t.deadline in

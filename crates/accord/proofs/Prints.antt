@@ -5,7 +5,7 @@ use native.Mathlib.Omega.{arith}
 use mathlib.Core.Path.{◌≡◌, refl, sym, ap, subst, ◌∙◌}
 use mathlib.Core.Bool.{Bool, true, false}
 use mathlib.Core.List.{List, [], ◌∷◌, ◌++◌}
-use mathlib.Core.Option.{Option, none, some}
+use Rattle.std.specs.Prelude.{Option, None, Some}
 use lib.ListN.{length, drop}
 use lib.Dec.{ltb}
 use borrow.Author.Tests.{ltb-true, ltb-false}
@@ -14,7 +14,7 @@ use Rattle.model.specs.Timetable.{Chosen, Met}
 use Rattle.model.specs.FreeOrder.{busy, last_from}
 use Rattle.model.specs.Positions.{free}
 use Rattle.model.proofs.Free.{free_best, free_none_iff}
-use Rattle.records.specs.declared.refusal.Refusal.TheVariants.{None, Room}
+use Rattle.records.specs.declared.refusal.Refusal.TheVariants as R
 use Rattle.records.specs.Limits.{most_jobs, longest_plan}
 use Rattle.records.specs.Refusals.{Outcome, accepted, refused}
 use Rattle.table.specs.Tables.{JobTable, read_table}
@@ -41,14 +41,14 @@ module _ (s : List ℕ) (t : JobTable) (e : read_table s ≡ accepted t) where
   few = (accepted_good s t e).few
 
   -- what the lister finds is what the contract tells
-  finds_best : (xs : List Chosen) → BestPlan t.deadline t.jobs xs → found ≡ some xs
+  finds_best : (xs : List Chosen) → BestPlan t.deadline t.jobs xs → found ≡ Some xs
   finds_best xs p = step found refl
     where
-      step : (o : Option (List Chosen)) → found ≡ o → found ≡ some xs
-      step none q = absurd ((free_none_iff most_jobs t.jobs few t.deadline).0 q (best_meets t xs p))
-      step (some ys) q = q ∙ ap some (one_best t ys xs (free_best most_jobs t.jobs few t.deadline ys q) p)
+      step : (o : Option (List Chosen)) → found ≡ o → found ≡ Some xs
+      step None q = absurd ((free_none_iff most_jobs t.jobs few t.deadline).0 q (best_meets t xs p))
+      step (Some ys) q = q ∙ ap Some (one_best t ys xs (free_best most_jobs t.jobs few t.deadline ys q) p)
 
-  text_none : ¬ (Met t.deadline t.jobs) → text_of s ≡ found_text t none
+  text_none : ¬ (Met t.deadline t.jobs) → text_of s ≡ found_text t None
   unfolding text_of
   text_none n = ap outcome_text e ∙ ap (found_text t) ((free_none_iff most_jobs t.jobs few t.deadline).1 n)
 
@@ -61,7 +61,7 @@ module _ (s : List ℕ) (bytes : All Byte s) (before : List ℕ) (r : Planned) (
   unfolding plan_text
   text_of_lem (no_room short h) = absurd (omega arith)
   text_of_lem (bad_table m f e h) = subst (TextOf s r after) (refused_text_lem s f e) (of_refusal f h.says)
-  text_of_lem (no_plan m t e n h) = subst (TextOf s r after) (sym (text_none s t e n)) (of_refusal None h.says)
+  text_of_lem (no_plan m t e n h) = subst (TextOf s r after) (sym (text_none s t e n)) (of_refusal R.None h.says)
   text_of_lem (planned m t e xs p h) =
       let table = (table_is s bytes (accepted t)).0 e in
       let of = (free_of t xs p).0 in
@@ -91,12 +91,12 @@ free_answers s before = fits (ltb (length before) longest_plan) refl
   where
     answers : longest_plan ≤ length before → (t : JobTable) → read_table s ≡ accepted t → (o : Option (List Chosen)) → free most_jobs t.deadline t.jobs ≡ o →
         (r : Planned) × (after : List ℕ) × FreeAnswer s before r after
-    answers room t e none q = (
-      NotPlanned None,
+    answers room t e None q = (
+      NotPlanned R.None,
       before,
       no_plan room t e ((free_none_iff most_jobs t.jobs (few s t e) t.deadline).0 q) (record { says = refl; left = refl }),
     )
-    answers room t e (some xs) q =
+    answers room t e (Some xs) q =
         let bytes = plan_bytes (steps_for xs) in (
           PlanWritten (length bytes) (busy xs) (last_from 0 xs),
           bytes ++ drop (length bytes) before,
@@ -108,5 +108,5 @@ free_answers s before = fits (ltb (length before) longest_plan) refl
     reads room (refused f) e = (NotPlanned f, before, bad_table room f e (record { says = refl; left = refl }))
 
     fits : (b : Bool) → ltb (length before) longest_plan ≡ b → (r : Planned) × (after : List ℕ) × FreeAnswer s before r after
-    fits true e = (NotPlanned Room, before, no_room (ltb-true _ _ e) (record { says = refl; left = refl }))
+    fits true e = (NotPlanned R.Room, before, no_room (ltb-true _ _ e) (record { says = refl; left = refl }))
     fits false e = reads (ltb-false _ _ e) (read_table s) refl

@@ -1,7 +1,7 @@
 -- A plan in the making: the jobs laid so far in plan order, as steps and as numbers.
 -- Assumes nothing.
 use Rattle.std.specs.Prelude.{Bool, true, false, cond, List, []}
-use Rattle.std.proofs.Math.Option.{Option, none, some}
+use Rattle.std.specs.Prelude.{Option, None, Some}
 use Rattle.model.specs.Timetable.{Chosen}
 use Rattle.model.specs.Laying.{laid_of, laid_with}
 use Rattle.plan.specs.Plans.{plan_of, with_step, step_of, steps_for}
@@ -20,5 +20,5 @@ with_if d listed c = cond listed (with_chosen d c) d
 
 -- what a planner finds: a plan in plan order, or none
 abbrev pub drafted_of : Option (List Chosen) → Drafted
-drafted_of none = record { found = false; draft = draft_of [] }
-drafted_of (some cs) = record { found = true; draft = draft_of cs }
+drafted_of None = record { found = false; draft = draft_of [] }
+drafted_of (Some cs) = record { found = true; draft = draft_of cs }

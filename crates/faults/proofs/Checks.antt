@@ -6,7 +6,7 @@ use mathlib.Core.Path.{◌≡◌, refl, sym, ap, subst, ◌∙◌}
 use mathlib.Core.Logic.{◌⊎◌, inl, inr, ◌↔◌, ⊎_elim}
 use mathlib.Core.Bool.{Bool, true, false, cond, not, ◌&&◌, ◌||◌, or-true}
 use mathlib.Core.List.{List, [], ◌∷◌, ◌++◌, map, Memᴰ, append-nil}
-use mathlib.Core.Option.{none, some}
+use Rattle.std.specs.Prelude.{None, Some}
 use lib.Seq.{append_snoc}
 use lib.Dec.{T, leb}
 use borrow.Author.Tests.{leb-true, leb-false, ne_eqb}
@@ -82,7 +82,7 @@ steps_are js (x ∷ xs) h =
     (c.0 ∷ r.0, (cc (c.3, r.1)), (c.2, r.2), (c.1, r.3))
 
 -- no job has the id
-job_none : (js : List Job) (id : ℕ) → All (λ (j : Job). ¬ (j.id ≡ id)) js → job_of js id ≡ none
+job_none : (js : List Job) (id : ℕ) → All (λ (j : Job). ¬ (j.id ≡ id)) js → job_of js id ≡ None
 unfolding with_key
 job_none [] id h = refl
 job_none (j ∷ js) id h = rw (ne_eqb j.id id h.0) (job_none js id h.1)
@@ -95,7 +95,7 @@ module _ (js : List Job) (distinct : Distinct job_id js) where
   step_refused : (x : Step) (f : Refusal) → StepFault js x f → chosen_by x (job_of js x.id) ≡ refused f
   step_refused x f (stranger h) = rw (job_none js x.id h)
   step_refused x f (kept j m e here away) =
-      let found : job_of js x.id ≡ some j = subst (λ (n : ℕ). job_of js n ≡ some j) e (with_own job_id js j distinct m) in
+      let found : job_of js x.id ≡ Some j = subst (λ (n : ℕ). job_of js n ≡ Some j) e (with_own job_id js j distinct m) in
       rw found (go x.away (is_either j) away here)
     where
       go : (w i : Bool) → w ≡ true → i ≡ false → cond (w && not i) (refused Kept) (accepted (chosen j w)) ≡ refused Kept

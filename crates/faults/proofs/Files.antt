@@ -7,7 +7,7 @@ use mathlib.Core.Logic.{◌⊎◌, inl, inr, ◌↔◌}
 use mathlib.Core.Bool.{Bool, true, false}
 use mathlib.Core.List.Memᴰ
 use mathlib.Core.List.{List, [], ◌∷◌, ◌++◌, map, flat_map, Memᴰ, append-nil, append_assoc}
-use mathlib.Core.Option.{Option, none, some}
+use Rattle.std.specs.Prelude.{Option, None, Some}
 use lib.ListN.{length, drop, length-append}
 use lib.Seq.{append_snoc, drop_at}
 use lib.Dec.{eqb, ltb}
@@ -31,14 +31,14 @@ module _ {A : Type 0} (f : A → ℕ) (n : ℕ) where
   abbrev One : List A → Type 0
   One xs = (x : A) × Memᴰ x xs × (f x ≡ n)
 
-  abbrev None : List A → Type 0
-  None = All (λ (x : A). ¬ (f x ≡ n))
+  abbrev Absent : List A → Type 0
+  Absent = All (λ (x : A). ¬ (f x ≡ n))
 
-  pub one_or_none : (xs : List A) → One xs ⊎ None xs
+  pub one_or_none : (xs : List A) → One xs ⊎ Absent xs
   one_or_none [] = inr tt
   one_or_none (x ∷ xs) = step (eqb (f x) n) refl (one_or_none xs)
     where
-      step : (b : Bool) → eqb (f x) n ≡ b → One xs ⊎ None xs → One (x ∷ xs) ⊎ None (x ∷ xs)
+      step : (b : Bool) → eqb (f x) n ≡ b → One xs ⊎ Absent xs → One (x ∷ xs) ⊎ Absent (x ∷ xs)
       step true e o = inl (x, Memᴰ.head refl, eqb-true (f x) n e)
       step false e (inl r) = inl (r.0, Memᴰ.tail r.1, r.2)
       step false e (inr h) = inr (eqb-false (f x) n e, h)
@@ -115,7 +115,7 @@ module _
     told_listed x more bytes = room (ltb (length xs) most_jobs) refl
       where
         new :
-            length xs < most_jobs → InRange x → One id_of (id_of x) xs ⊎ None id_of (id_of x) xs →
+            length xs < most_jobs → InRange x → One id_of (id_of x) xs ⊎ Absent id_of (id_of x) xs →
             Told (joined first ++ flat_map bytes_of xs ++ (bytes_of x ++ more))
         new h ok (inl m) = faulty (twice x more h ok (subst (λ (i : ℕ). Memᴰ i (map id_of xs)) m.2 (Memᴰ.map id_of m.1)))
         new h ok (inr d) =
@@ -163,8 +163,8 @@ module _
 -- A record that is not read is refused by what is judged of every record, where the kinds that may stand there are these.
 module _
     {K R : Type 0} (refuse : Refusal → R) (read : Place → K → R) (may : Meaning → Option K) (kinds : List (ℕ × ℕ))
-    (others : (k : ℕ) → All (λ (r : ℕ × ℕ). ¬ (k ≡ r.0)) kinds → may (form_of k).meaning ≡ none)
-    (these : All (λ (r : ℕ × ℕ). (j : K) × (may (form_of r.0).meaning ≡ some j) × ((form_of r.0).body ≡ r.1)) kinds)
+    (others : (k : ℕ) → All (λ (r : ℕ × ℕ). ¬ (k ≡ r.0)) kinds → may (form_of k).meaning ≡ None)
+    (these : All (λ (r : ℕ × ℕ). (j : K) × (may (form_of r.0).meaning ≡ Some j) × ((form_of r.0).body ≡ r.1)) kinds)
     (s : List ℕ) (p : Place) where
   pub unread_refused : {rest : List ℕ} {f : Refusal} → Unread kinds p rest f → drop p.at s ≡ rest → judged refuse read may s p ≡ refuse f
   unread_refused no_byte e =

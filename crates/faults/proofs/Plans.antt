@@ -5,7 +5,7 @@ use mathlib.Core.Path.{◌≡◌, refl, sym, ap, subst, ◌∙◌}
 use mathlib.Core.Logic.{◌⊎◌, inl, inr, ◌↔◌}
 use mathlib.Core.Bool.{Bool, true, false, cond}
 use mathlib.Core.List.{List, [], ◌∷◌, ◌++◌, flat_map}
-use mathlib.Core.Option.{none, some}
+use Rattle.std.specs.Prelude.{None, Some}
 use lib.ListN.{length, drop}
 use borrow.Author.Tests.{le-ltb}
 use Rattle.model.specs.Lists.{All}
@@ -52,12 +52,12 @@ not_step HereStep h = h.0 refl
 not_step AwayStep h = h.1.0 refl
 not_step EndStep h = h.1.1.0 refl
 
-others : (k : ℕ) → All (λ (r : ℕ × ℕ). ¬ (k ≡ r.0)) step_kinds → step_only (form_of k).meaning ≡ none
+others : (k : ℕ) → All (λ (r : ℕ × ℕ). ¬ (k ≡ r.0)) step_kinds → step_only (form_of k).meaning ≡ None
 others k =
-    form_all (λ (b : ℕ) (f : Form). All (λ (r : ℕ × ℕ). ¬ (b ≡ r.0)) step_kinds → step_only f.meaning ≡ none)
+    form_all (λ (b : ℕ) (f : Form). All (λ (r : ℕ × ℕ). ¬ (b ≡ r.0)) step_kinds → step_only f.meaning ≡ None)
     (λ h. refl) (λ j h. refl) (λ j h. absurd (not_step j h)) (λ b h. refl) k
 
-these : All (λ (r : ℕ × ℕ). (j : StepKind) × (step_only (form_of r.0).meaning ≡ some j) × ((form_of r.0).body ≡ r.1)) step_kinds
+these : All (λ (r : ℕ × ℕ). (j : StepKind) × (step_only (form_of r.0).meaning ≡ Some j) × ((form_of r.0).body ≡ r.1)) step_kinds
 unfolding form_of
 these = ((HereStep, refl, refl), ((AwayStep, refl, refl), ((EndStep, refl, refl), tt)))
 

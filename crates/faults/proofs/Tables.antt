@@ -5,7 +5,7 @@ use mathlib.Core.Path.{◌≡◌, refl, sym, ap, subst, ◌∙◌}
 use mathlib.Core.Logic.{◌⊎◌, inl, inr, ◌↔◌}
 use mathlib.Core.Bool.{Bool, true, false, cond, ◌&&◌}
 use mathlib.Core.List.{List, [], ◌∷◌, ◌++◌, map, flat_map}
-use mathlib.Core.Option.{none, some}
+use Rattle.std.specs.Prelude.{None, Some}
 use lib.ListN.{length, drop}
 use lib.Dec.{ltb}
 use borrow.Author.Tests.{lt-ltb, le-ltb, le-leb, ltb-true, leb-true}
@@ -94,9 +94,9 @@ frame_is rest w bytes =
     (number_is w.more (subst (All Byte) w.is bytes).1, tt) w.allowed w.there)
 
 -- the kinds of a table's records
-frame_others : (k : ℕ) → All (λ (r : ℕ × ℕ). ¬ (k ≡ r.0)) frame_kinds → frame_only (form_of k).meaning ≡ none
+frame_others : (k : ℕ) → All (λ (r : ℕ × ℕ). ¬ (k ≡ r.0)) frame_kinds → frame_only (form_of k).meaning ≡ None
 frame_others k =
-    form_all (λ (b : ℕ) (f : Form). All (λ (r : ℕ × ℕ). ¬ (b ≡ r.0)) frame_kinds → frame_only f.meaning ≡ none)
+    form_all (λ (b : ℕ) (f : Form). All (λ (r : ℕ × ℕ). ¬ (b ≡ r.0)) frame_kinds → frame_only f.meaning ≡ None)
     (λ h. absurd (h.0 refl)) (λ j h. refl) (λ j h. refl) (λ b h. refl) k
 
 not_row : (k : RowKind) → All (λ (r : ℕ × ℕ). ¬ (row_byte k ≡ r.0)) row_kinds → ⊥
@@ -104,16 +104,16 @@ not_row HereRow h = h.0 refl
 not_row EitherRow h = h.1.0 refl
 not_row EndRow h = h.1.1.0 refl
 
-row_others : (k : ℕ) → All (λ (r : ℕ × ℕ). ¬ (k ≡ r.0)) row_kinds → row_only (form_of k).meaning ≡ none
+row_others : (k : ℕ) → All (λ (r : ℕ × ℕ). ¬ (k ≡ r.0)) row_kinds → row_only (form_of k).meaning ≡ None
 row_others k =
-    form_all (λ (b : ℕ) (f : Form). All (λ (r : ℕ × ℕ). ¬ (b ≡ r.0)) row_kinds → row_only f.meaning ≡ none)
+    form_all (λ (b : ℕ) (f : Form). All (λ (r : ℕ × ℕ). ¬ (b ≡ r.0)) row_kinds → row_only f.meaning ≡ None)
     (λ h. refl) (λ j h. absurd (not_row j h)) (λ j h. refl) (λ b h. refl) k
 
-frame_these : All (λ (r : ℕ × ℕ). (j : Unit {0}) × (frame_only (form_of r.0).meaning ≡ some j) × ((form_of r.0).body ≡ r.1)) frame_kinds
+frame_these : All (λ (r : ℕ × ℕ). (j : Unit {0}) × (frame_only (form_of r.0).meaning ≡ Some j) × ((form_of r.0).body ≡ r.1)) frame_kinds
 unfolding form_of
 frame_these = ((tt, refl, refl), tt)
 
-row_these : All (λ (r : ℕ × ℕ). (j : RowKind) × (row_only (form_of r.0).meaning ≡ some j) × ((form_of r.0).body ≡ r.1)) row_kinds
+row_these : All (λ (r : ℕ × ℕ). (j : RowKind) × (row_only (form_of r.0).meaning ≡ Some j) × ((form_of r.0).body ≡ r.1)) row_kinds
 unfolding form_of
 row_these = ((HereRow, refl, refl), ((EitherRow, refl, refl), ((EndRow, refl, refl), tt)))
 

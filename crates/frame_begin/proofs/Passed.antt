@@ -6,7 +6,7 @@ use mathlib.Core.Path.{◌≡◌, refl, sym, ◌∙◌, ap}
 use mathlib.Core.Bool.{Bool, true, false, cond}
 use mathlib.Core.Logic.{inl, inr}
 use mathlib.Core.List.{List, [], ◌∷◌, map}
-use mathlib.Core.Option.{some}
+use Rattle.std.specs.Prelude.{Some}
 use lib.Dec.{eqb}
 use lib.ListN.{length, get_or, length-map}
 use borrow.Author.Tests.{eqb-true}
@@ -55,12 +55,12 @@ pub record JobFor (js : List Job) (id : ℕ) : Type 0 where
   pub inside : at < length js
   pub same_id : (get_or js at no_job).id ≡ id
 
-job_for : (js : List Job) (id : ℕ) (j : Job) → job_of js id ≡ some j → JobFor js id
+job_for : (js : List Job) (id : ℕ) (j : Job) → job_of js id ≡ Some j → JobFor js id
 unfolding with_key
 job_for [] id j e = clash (cc)
 job_for (x ∷ js) id j e = step (eqb x.id id) refl e (job_for js id j)
   where
-    step : (b : Bool) → eqb x.id id ≡ b → cond b (some x) (job_of js id) ≡ some j → (job_of js id ≡ some j → JobFor js id) → JobFor (x ∷ js) id
+    step : (b : Bool) → eqb x.id id ≡ b → cond b (Some x) (job_of js id) ≡ Some j → (job_of js id ≡ Some j → JobFor js id) → JobFor (x ∷ js) id
     step true q e on = record { at = 0; inside = omega arith; same_id = eqb-true x.id id q }
     step false q e on = let r = on e in record { at = suc r.at; inside = omega (arith, r.inside); same_id = r.same_id }
 

@@ -1,6 +1,6 @@
 -- Document 01, 'The frame runner': "Begin (table, plan, frame number 0..4,294,967,295): PHASE if open; the check's refusals; NUMBER (never
 -- from idle). Opens with the time at 0 and no values." Assumes nothing.
-use Rattle.std.specs.Prelude.{ℕ, zero, suc, Bool, false, cond, ◌||◌, List, [], length, get_or, set, replicate, ltb}
+use Rattle.std.specs.Prelude.{ℕ, zero, suc, Bool, false, cond, ◌||◌, List, [], length, get_or, set, replicate, ltb, Option, None, Some}
 use Rattle.model.specs.declared.Job.{Job}
 use Rattle.model.specs.Positions.{no_job}
 use Rattle.records.specs.Limits.{most_jobs}
@@ -20,8 +20,6 @@ use Rattle.frame_record.specs.declared.Phase.TheVariants.{Open}
 use Rattle.frame_record.specs.declared.Standing.TheVariants.{Waiting}
 use Rattle.frame_record.specs.declared.Entry.{Entry}
 use Rattle.frame_record.specs.declared.Frame.{Frame}
-use Rattle.lookup.specs.declared.Found.{Found}
-use Rattle.lookup.specs.declared.Found.TheVariants.{At, Nowhere}
 use Rattle.frame_record.specs.declared.Called.{Called}
 
 -- the steps of a plan; a plan that is refused has none
@@ -36,9 +34,9 @@ module _ {A : Type 0} (d : A) (g : ℕ → A) where
   filled (suc k) = set (filled k) k (g k)
 
 -- whether the plan sends a job away: the choice of the step, of the first n, that has its id
-abbrev pub away_of : List plan.Step → Found → Bool
-away_of xs (At k) = (get_or xs k no_step).away
-away_of xs Nowhere = false
+abbrev pub away_of : List plan.Step → Option ℕ → Bool
+away_of xs (Some k) = (get_or xs k no_step).away
+away_of xs None = false
 
 unfoldable pub away_in : List plan.Step → ℕ → ℕ → Bool
 away_in xs n id = away_of xs (first step_id no_step xs id 0 n)

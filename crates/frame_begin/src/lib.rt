@@ -12,12 +12,11 @@ ghost use Rattle.frame_begin.specs.Begin.{steps_in, away_in, entries_of, positio
 
 use frame_record::{Answer, Called, Entry, Frame, Phase, Standing};
 use judge::Checked;
-use lookup::Found;
 use records::refusal::Refusal;
 use table::{Table, TableVerdict};
 
 // Which of the first `count` steps of a plan has an id.
-fn step_of(plan: &[u8], count: usize, id: u8) -> Found
+fn step_of(plan: &[u8], count: usize, id: u8) -> Option<usize>
     requires { count ≤ length (steps_in (read_plan plan.now)) }
     ensures { result ≡ first step_id no_step (steps_in (read_plan plan.now)) id 0 count }
 {
@@ -25,11 +24,11 @@ fn step_of(plan: &[u8], count: usize, id: u8) -> Found
     while k < count {
         let step = plan::step_at(plan, k);
         if step.id == id {
-            return Found::At(k);
+            return Some(k);
         }
         k += 1;
     }
-    Found::Nowhere
+    None
 }
 
 // Whether the plan sends the job with an id away.
@@ -39,11 +38,11 @@ fn away_in(plan: &[u8], count: usize, id: u8) -> bool
 {
     let found = step_of(plan, count, id);
     match found {
-        Found::At(k) => {
+        Some(k) => {
             let step = plan::step_at(plan, k);
             step.away
         }
-        Found::Nowhere => false,
+        None => false,
     }
 }
 

@@ -1,6 +1,6 @@
 -- Document 01, 'The frame runner': the rules of next, close and read, by cases and in the document's order, and every call but begin.
 -- Assumes nothing.
-use Rattle.std.specs.Prelude.{ℕ, cond, ltb}
+use Rattle.std.specs.Prelude.{ℕ, cond, ltb, Option, None, Some}
 use Rattle.records.specs.declared.refusal.Refusal.TheVariants as R
 use Rattle.frame_record.specs.Sound.{entry_at, where_is, panel_entry, is_open, open?, begun?}
 use Rattle.frame_record.specs.Answers.{refused, done, in_open, on_clock}
@@ -13,8 +13,6 @@ use Rattle.frame_record.specs.declared.Reading.{Reading}
 use Rattle.frame_record.specs.declared.Reading.TheVariants as reads
 use Rattle.frame_record.specs.declared.Answer.{Answer}
 use Rattle.frame_record.specs.declared.Answer.TheVariants.{Panel, Rest, Read, Refused}
-use Rattle.lookup.specs.declared.Found.{Found}
-use Rattle.lookup.specs.declared.Found.TheVariants.{At, Nowhere}
 use Rattle.frame_record.specs.declared.Event.{Event}
 use Rattle.frame_record.specs.declared.Event.TheVariants as E
 use Rattle.frame_record.specs.declared.Called.{Called}
@@ -53,9 +51,9 @@ reading_of p Out = unreported p
 reading_of p (Held s) = reads.Fresh s
 reading_of p Late = reads.Late
 
-abbrev pub read_at : Frame → Found → Answer
-read_at f (At i) = Read (reading_of f.phase (entry_at f.entries i).standing)
-read_at f Nowhere = Refused R.Who
+abbrev pub read_at : Frame → Option ℕ → Answer
+read_at f (Some i) = Read (reading_of f.phase (entry_at f.entries i).standing)
+read_at f None = Refused R.Who
 
 -- "PHASE if idle; WHO if not in the table"
 unfoldable pub read_of : Frame → ℕ → Answer

@@ -7,7 +7,6 @@ ghost use Rattle.frame_calls.specs.Calls.{next_of, closed, close_step, unreporte
 
 use frame_record::{Answer, Called, Event, Frame, Phase, Reading, Standing};
 use frame_reports::{give_back, span_end};
-use lookup::Found;
 use records::refusal::Refusal;
 
 // A call that only asks leaves the record as it was.
@@ -102,13 +101,13 @@ pub fn read(f: Frame, id: u8) -> Answer
     }
     let found = f.position_of(id);
     match found {
-        Found::At(i) => {
+        Some(i) => {
             let e = f.entries[i];
             let phase = f.phase;
             let s = e.standing;
             return Answer::Read(reading_of(phase, s));
         }
-        Found::Nowhere => {
+        None => {
             return Answer::Refused(Refusal::Who);
         }
     }

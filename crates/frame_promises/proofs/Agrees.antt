@@ -5,7 +5,7 @@ use native.Mathlib.Omega.{arith}
 use mathlib.Core.Path.{◌≡◌, refl, sym, ◌∙◌, ap}
 use mathlib.Core.Bool.{Bool, true, false, cond}
 use mathlib.Core.List.{List, [], ◌∷◌}
-use mathlib.Core.Option.{Option, some, none}
+use Rattle.std.specs.Prelude.{Option, Some, None}
 use borrow.Author.Tests.{ltb-true, ltb-false, eqb-true, eqb-false}
 use lib.ListN.{length, get_or, set, drop}
 use lib.Dec.{leb, ltb, eqb}
@@ -43,8 +43,8 @@ Unheard out (Held x) = ⊥
 Unheard out Late = ⊥
 
 abbrev pub Stood : ℕ → ℕ → Bool → Option Report → Standing → Type 0
-Stood number deadline out none s = Unheard out s
-Stood number deadline out (some r) s = (s ≡ judge r.value number r.time deadline) × (out ≡ false)
+Stood number deadline out None s = Unheard out s
+Stood number deadline out (Some r) s = (s ≡ judge r.value number r.time deadline) × (out ≡ false)
 
 pub record Agrees (f : Frame) (b : Last) : Type 0 where
   pub numbered : f.number ≡ b.number
@@ -78,11 +78,11 @@ unpassed number k away (Held x) h = absurd (omega (arith, h.0))
 unpassed number k away Late h = absurd (omega arith)
 
 -- a job that waits has not been heard of
-unheard_of : (number deadline : ℕ) (out : Bool) (o : Option Report) (s : Standing) → s ≡ Waiting → Stood number deadline out o s → o ≡ none
-unheard_of number deadline out none s is w = refl
-unheard_of number deadline out (some r) s is w = step (leb r.time deadline) (sym is ∙ w.0)
+unheard_of : (number deadline : ℕ) (out : Bool) (o : Option Report) (s : Standing) → s ≡ Waiting → Stood number deadline out o s → o ≡ None
+unheard_of number deadline out None s is w = refl
+unheard_of number deadline out (Some r) s is w = step (leb r.time deadline) (sym is ∙ w.0)
   where
-    step : (b : Bool) → Waiting ≡ cond b (Held (record { value = r.value; frame = number })) Late → some r ≡ none
+    step : (b : Bool) → Waiting ≡ cond b (Held (record { value = r.value; frame = number })) Late → Some r ≡ None
     step true e = clash (cc)
     step false e = clash (cc)
 
@@ -137,8 +137,8 @@ module _ (f : Frame) (fine : Fine f) (o : open? f ≡ true) (b : Last) (a : Agre
         choices = λ k h. moved_away f (open_parts f o) fine.sized at t next s inside (position_at f.order k) ∙ a.choices k h;
         left = left;
         stands = λ i h. stands_now i h (eqb i at) refl;
-        strangers = λ id none.
-            away id (λ e. none at inside (ids at ∙ e)) ∙ a.strangers id (λ i h e. none i h (ids i ∙ e));
+        strangers = λ id None.
+            away id (λ e. None at inside (ids at ∙ e)) ∙ a.strangers id (λ i h e. None i h (ids i ∙ e));
       }
 
     -- with a report of that job, which is out no longer
@@ -170,7 +170,7 @@ module _ (f : Frame) (fine : Fine f) (o : open? f ≡ true) (b : Last) (a : Agre
     abbrev panel_out : Bool
     panel_out = used b.out (panel_entry f).id
 
-    pub silent : report_of b.reports (panel_entry f).id ≡ none
+    pub silent : report_of b.reports (panel_entry f).id ≡ None
     silent =
         unheard_of f.number f.deadline panel_out (report_of b.reports (panel_entry f).id) (panel_entry f).standing waiting
         (a.stands position position_in)
@@ -260,5 +260,5 @@ module _ (number : ℕ) (t : JobTable) (xs : List plan.Step) (p : PlanFits t xs)
     choices = choice;
     left = refl;
     stands = λ i h. rw (entry_at_lem number t xs p i h) refl;
-    strangers = λ id none. refl;
+    strangers = λ id None. refl;
   }

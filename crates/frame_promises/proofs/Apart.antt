@@ -5,7 +5,7 @@ use mathlib.Core.Path.{◌≡◌, refl, sym, ◌∙◌, ap, subst}
 use mathlib.Core.Bool.{Bool, true, false, cond}
 use mathlib.Core.Logic.{◌⊎◌, inl, inr}
 use mathlib.Core.List.{List, [], ◌∷◌}
-use mathlib.Core.Option.{Option, some, none}
+use Rattle.std.specs.Prelude.{Option, Some, None}
 use borrow.Author.Tests.{eqb-true}
 use lib.Dec.{leb, eqb}
 use lib.Ieee.{Float}
@@ -65,8 +65,8 @@ module _ (job : ℕ) where
   -- ---- a read
 
   data Heard (id : ℕ) : Option Report → Option Report → Type 0 where
-    not_heard : Heard id none none
-    heard : (r q : Report) → Twin r q → r.job ≡ id → Heard id (some r) (some q)
+    not_heard : Heard id None None
+    heard : (r q : Report) → Twin r q → r.job ≡ id → Heard id (Some r) (Some q)
 
   report_pair : (rs qs : List Report) → Twins rs qs → (id : ℕ) → Heard id (report_of rs id) (report_of qs id)
   unfolding report_of
@@ -74,12 +74,12 @@ module _ (job : ℕ) where
   report_pair [] (q ∷ qs) t id = absurd t
   report_pair (r ∷ rs) [] t id = absurd t
   report_pair (r ∷ rs) (q ∷ qs) t id =
-      subst (λ (i : ℕ). Heard id (cond (eqb r.job id) (some r) (report_of rs id)) (cond (eqb i id) (some q) (report_of qs id))) t.0.jobs
+      subst (λ (i : ℕ). Heard id (cond (eqb r.job id) (Some r) (report_of rs id)) (cond (eqb i id) (Some q) (report_of qs id))) t.0.jobs
       (step (eqb r.job id) refl (report_pair rs qs t.1 id))
     where
       step :
           (w : Bool) → eqb r.job id ≡ w → Heard id (report_of rs id) (report_of qs id) →
-          Heard id (cond w (some r) (report_of rs id)) (cond w (some q) (report_of qs id))
+          Heard id (cond w (Some r) (report_of rs id)) (cond w (Some q) (report_of qs id))
       step true e on = heard r q t.0 (eqb-true r.job id e)
       step false e on = on
 
@@ -103,14 +103,14 @@ module _ (job : ℕ) where
         SameBut job (event (E.Read id)) (reading b unheard o) (reading (other b rs) unheard p)
     reading_pair rs o p not_heard = same_answer
     reading_pair rs o p (heard r q t is) =
-        subst (λ (i : ℕ). SameBut job (event (E.Read id)) (reading b unheard (some r)) (timed_says i q.value))
+        subst (λ (i : ℕ). SameBut job (event (E.Read id)) (reading b unheard (Some r)) (timed_says i q.value))
         t.times (timed r q t is (leb r.time b.table.deadline))
 
     read_in_lem :
         (rs : List Report) → Twins b.reports rs → (o : Option Job) →
         SameBut job (event (E.Read id)) (read_in b unheard id o) (read_in (other b rs) unheard id o)
-    read_in_lem rs t none = same_answer
-    read_in_lem rs t (some j) = reading_pair rs (report_of b.reports id) (report_of rs id) (report_pair b.reports rs t id)
+    read_in_lem rs t None = same_answer
+    read_in_lem rs t (Some j) = reading_pair rs (report_of b.reports id) (report_of rs id) (report_pair b.reports rs t id)
 
   -- ---- one call
 

@@ -1,5 +1,6 @@
 -- One principle for the runner's calls: what holds where a call is refused, where it only asks, where a span has ended, where a job came back,
 -- where the frame was closed and where one was begun, each with what is known there, holds of every call. Assumes nothing.
+use Rattle.std.specs.Prelude.{Option, None, Some}
 use Prim.Native.Nat.{ℕ, ◌+◌, ◌<◌}
 use native.Mathlib.Omega.{arith}
 use mathlib.Core.Path.{◌≡◌, refl}
@@ -33,8 +34,6 @@ use Rattle.frame_record.specs.declared.Standing.{Standing}
 use Rattle.frame_record.specs.declared.Standing.TheVariants.{Waiting, Out, Held, Late}
 use Rattle.frame_record.specs.declared.Frame.{Frame}
 use Rattle.frame_record.specs.declared.Answer.{Answer}
-use Rattle.lookup.specs.declared.Found.{Found}
-use Rattle.lookup.specs.declared.Found.TheVariants.{At, Nowhere}
 use Rattle.frame_record.specs.declared.Event.{Event}
 use Rattle.frame_record.specs.declared.Event.TheVariants as E
 use Rattle.frame_record.specs.declared.Called.{Called}
@@ -78,11 +77,11 @@ module _ (f : Frame) (Q : Called → Type 0) where
     back_at o i h t v (Held x) e = k.refuses R.Who
     back_at o i h t v Late e = k.refuses R.Who
 
-    back_to_lem : open? f ≡ true → (id t : ℕ) (v : Float) (w : Found) → where_is f id ≡ w → Q (back_to f t v w)
+    back_to_lem : open? f ≡ true → (id t : ℕ) (v : Float) (w : Option ℕ) → where_is f id ≡ w → Q (back_to f t v w)
     unfolding where_is
-    back_to_lem o id t v (At i) e =
+    back_to_lem o id t v (Some i) e =
         back_at o i (omega (arith, first_below entry_id none f.entries id 0 f.count i e)) t v (entry_at f.entries i).standing refl
-    back_to_lem o id t v Nowhere e = k.refuses R.Who
+    back_to_lem o id t v None e = k.refuses R.Who
 
     back : (n id t : ℕ) (v : Float) → Q (back_step f n id t v)
     unfolding back_step

@@ -9,7 +9,7 @@ use mathlib.Core.Bool.{Bool, true, false, cond}
 use mathlib.Core.Logic.{inl, inr}
 use mathlib.Core.List.Memᴰ
 use mathlib.Core.List.{List, [], ◌∷◌, Memᴰ}
-use mathlib.Core.Option.{some}
+use Rattle.std.specs.Prelude.{Some}
 use borrow.Author.Tests.{ltb-true, ltb-false, le-ltb, le-leb, eq-eqb, ne_eqb}
 use lib.ListN.{length, get_or, drop}
 use lib.Seq.{drop-cons}
@@ -58,7 +58,7 @@ module _ (number : ℕ) (t : JobTable) (xs : List Step) (p : PlanFits t xs) (ds 
   record Holds (rs : List Report) (k : ℕ) : Type 0 where
     time : ℕ
     early : time ≤ D
-    report : report_of rs (id_at ds k) ≡ some (record { job = id_at ds k; time = time; value = value_at ds k })
+    report : report_of rs (id_at ds k) ≡ Some (record { job = id_at ds k; time = time; value = value_at ds k })
 
   holds_new : (rs : List Report) (k time : ℕ) → time ≤ D → Holds (record { job = id_at ds k; time = time; value = value_at ds k } ∷ rs) k
   holds_new rs k time early = record { time = time; early = early; report = report_same _ rs (id_at ds k) refl }

@@ -4,7 +4,7 @@ use native.Mathlib.Omega.{arith}
 use mathlib.Core.Path.{◌≡◌, refl, sym, ◌∙◌, ap}
 use mathlib.Core.Bool.{Bool, true, false, cond, ◌||◌}
 use mathlib.Core.List.{List, [], ◌∷◌}
-use mathlib.Core.Option.{some, none}
+use Rattle.std.specs.Prelude.{Some, None}
 use borrow.Author.Tests.{eqb-true, eq-eqb, ne_eqb}
 use lib.ListN.{length, get_or, drop}
 use lib.Dec.{eqb}
@@ -64,7 +64,7 @@ without_other (i ∷ is) id j other = step (eqb i id) refl (without_other is id 
 -- ---- the latest report of a job
 
 module _ (r : Report) (rs : List Report) (id : ℕ) where
-  pub report_same : r.job ≡ id → report_of (r ∷ rs) id ≡ some r
+  pub report_same : r.job ≡ id → report_of (r ∷ rs) id ≡ Some r
   unfolding report_of
   report_same e = rw (eq-eqb r.job id e)
 
@@ -74,17 +74,17 @@ module _ (r : Report) (rs : List Report) (id : ℕ) where
 
 -- ---- a table has the job at a position, and no job of an id that no position has
 
-pub in_table : (js : List Job) (id i : ℕ) → i < length js → (get_or js i no_job).id ≡ id → (j : Job) × (job_of js id ≡ some j)
+pub in_table : (js : List Job) (id i : ℕ) → i < length js → (get_or js i no_job).id ≡ id → (j : Job) × (job_of js id ≡ Some j)
 unfolding with_key
 in_table [] id i h e = absurd (omega arith)
 in_table (x ∷ js) id zero h e = (x, rw (eq-eqb x.id id e))
 in_table (x ∷ js) id (suc i) h e = step (eqb x.id id) (in_table js id i (omega arith) e)
   where
-    step : (b : Bool) → (j : Job) × (job_of js id ≡ some j) → (j : Job) × (cond b (some x) (job_of js id) ≡ some j)
+    step : (b : Bool) → (j : Job) × (job_of js id ≡ Some j) → (j : Job) × (cond b (Some x) (job_of js id) ≡ Some j)
     step true on = (x, refl)
     step false on = on
 
-pub not_in_table : (js : List Job) (id : ℕ) → ((i : ℕ) → i < length js → (get_or js i no_job).id ≡ id → ⊥) → job_of js id ≡ none
+pub not_in_table : (js : List Job) (id : ℕ) → ((i : ℕ) → i < length js → (get_or js i no_job).id ≡ id → ⊥) → job_of js id ≡ None
 unfolding with_key
 not_in_table [] id others = refl
 not_in_table (x ∷ js) id others =

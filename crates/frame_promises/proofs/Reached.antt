@@ -1,5 +1,6 @@
 -- "every record reached by calls from idle is sound": a record in which one job has moved on, a closed one and a begun one are as listed, and
 -- so each call keeps a record sound. Assumes nothing.
+use Rattle.std.specs.Prelude.{Some}
 use Prim.Native.Nat.{ℕ, ◌+◌, ◌≤◌, ◌<◌}
 use native.Mathlib.Omega.{arith}
 use mathlib.Core.Path.{◌≡◌, refl, sym, ◌∙◌, ap, subst}
@@ -30,7 +31,6 @@ use Rattle.frame_record.specs.declared.Standing.{Standing}
 use Rattle.frame_record.specs.declared.Standing.TheVariants.{Waiting, Out, Held, Late}
 use Rattle.frame_record.specs.declared.Entry.{Entry}
 use Rattle.frame_record.specs.declared.Frame.{Frame}
-use Rattle.lookup.specs.declared.Found.TheVariants.{At}
 use Rattle.frame_record.specs.declared.Called.{Called}
 use Rattle.lookup.proofs.Lookup.{first_below, first_has, first_some}
 use Rattle.frame_begin.proofs.Passed.{PlanFits, JobFor}
@@ -151,10 +151,10 @@ module _ (n : ℕ) (t : JobTable) (xs : List plan.Step) (p : PlanFits t xs) wher
   order_at k h = filled_at 0 (step_position js xs) count k p.good.few h
 
   -- the k-th step's job is found where the order says
-  found_by : (k : ℕ) → k < count → (m : ℕ) → position_of js (get_or xs k no_step).id ≡ At m → position_of js (get_or xs k no_step).id ≡ At (position_at order k)
-  found_by k h m e = e ∙ ap At (sym (order_at k h ∙ ap indexed e))
+  found_by : (k : ℕ) → k < count → (m : ℕ) → position_of js (get_or xs k no_step).id ≡ Some m → position_of js (get_or xs k no_step).id ≡ Some (position_at order k)
+  found_by k h m e = e ∙ ap Some (sym (order_at k h ∙ ap indexed e))
 
-  found_at : (k : ℕ) → k < count → position_of js (get_or xs k no_step).id ≡ At (position_at order k)
+  found_at : (k : ℕ) → k < count → position_of js (get_or xs k no_step).id ≡ Some (position_at order k)
   found_at k h =
       let j : JobFor js (get_or xs k no_step).id = p.named k (omega (arith, p.enough)) in
       let m = first_some job_id no_job js (get_or xs k no_step).id 0 count j.at (omega arith) (omega (arith, j.inside)) j.same_id in

@@ -7,7 +7,7 @@ use mathlib.Core.Bool.{Bool, true, false, cond}
 use mathlib.Core.Logic.{◌↔◌}
 use mathlib.Core.List.Memᴰ
 use mathlib.Core.List.{List, [], ◌∷◌, ◌++◌, Memᴰ}
-use mathlib.Core.Option.{Option, some, none}
+use Rattle.std.specs.Prelude.{Option, Some, None}
 use borrow.Author.Tests.{leb-true, leb-false, le-leb, lt-leb, eqb-true, eq-eqb}
 use lib.Dec.{leb, eqb}
 use lib.Ieee.{Float}
@@ -32,22 +32,22 @@ use Rattle.frame_promises.proofs.Replies.{reads_told, traced}
 
 -- ---- the job of an id
 
-has_job : (js : List Job) (id : ℕ) (j : Job) → job_of js id ≡ some j → Has js id
+has_job : (js : List Job) (id : ℕ) (j : Job) → job_of js id ≡ Some j → Has js id
 unfolding with_key
 has_job [] id j e = clash (cc)
 has_job (x ∷ js) id j e = step (eqb x.id id) refl e (has_job js id j)
   where
-    step : (w : Bool) → eqb x.id id ≡ w → cond w (some x) (job_of js id) ≡ some j → (job_of js id ≡ some j → Has js id) → Has (x ∷ js) id
+    step : (w : Bool) → eqb x.id id ≡ w → cond w (Some x) (job_of js id) ≡ Some j → (job_of js id ≡ Some j → Has js id) → Has (x ∷ js) id
     step true q e on = (x, Memᴰ.head refl, eqb-true x.id id q)
     step false q e on = let r = on e in (r.0, Memᴰ.tail r.1, r.2)
 
-job_has : (js : List Job) (id : ℕ) (j : Job) → Memᴰ j js → j.id ≡ id → (i : Job) × (job_of js id ≡ some i)
+job_has : (js : List Job) (id : ℕ) (j : Job) → Memᴰ j js → j.id ≡ id → (i : Job) × (job_of js id ≡ Some i)
 unfolding with_key
 job_has [] id j m is = elim m [ ]
 job_has (x ∷ js) id j (Memᴰ.head e) is = (x, rw (eq-eqb x.id id (ap (λ (y : Job). y.id) (sym e) ∙ is)))
 job_has (x ∷ js) id j (Memᴰ.tail m) is = step (eqb x.id id) (job_has js id j m is)
   where
-    step : (w : Bool) → (i : Job) × (job_of js id ≡ some i) → (i : Job) × (cond w (some x) (job_of js id) ≡ some i)
+    step : (w : Bool) → (i : Job) × (job_of js id ≡ Some i) → (i : Job) × (cond w (Some x) (job_of js id) ≡ Some i)
     step true on = (x, refl)
     step false on = on
 
@@ -107,15 +107,15 @@ unheard false = says (0 ∷ 1 ∷ [])
 module _ {ts : List Turn} {b : Last} (id : ℕ) where
   -- ---- what it says holds
 
-  silent : {shut : Bool} (w : Since ts b shut) → report_of b.reports id ≡ none → Unreported w.later w.steps b.number id
-  silent w e time v r = let x : Report = record { job = id; time = time; value = v } in let z : none ≡ some x = sym e ∙ w.heard id time v r in clash (cc)
+  silent : {shut : Bool} (w : Since ts b shut) → report_of b.reports id ≡ None → Unreported w.later w.steps b.number id
+  silent w e time v r = let x : Report = record { job = id; time = time; value = v } in let z : None ≡ Some x = sym e ∙ w.heard id time v r in clash (cc)
 
-  unheard_says : (shut : Bool) (w : Since ts b shut) → Has b.table.jobs id → report_of b.reports id ≡ none → ReadSays ts id (unheard shut)
+  unheard_says : (shut : Bool) (w : Since ts b shut) → Has b.table.jobs id → report_of b.reports id ≡ None → ReadSays ts id (unheard shut)
   unheard_says true w has e = is_missing w.begun has (silent w e) w.ended
   unheard_says false w has e = is_pending w.begun has (silent w e) w.ended
 
   timed_says :
-      {shut : Bool} (w : Since ts b shut) → Has b.table.jobs id → (r : Report) → report_of b.reports id ≡ some r → (q : Bool) →
+      {shut : Bool} (w : Since ts b shut) → Has b.table.jobs id → (r : Report) → report_of b.reports id ≡ Some r → (q : Bool) →
       leb r.time b.table.deadline ≡ q → ReadSays ts id (cond q (fresh b.number r.value) (says (0 ∷ 2 ∷ [])))
   timed_says w has r e true early = is_fresh w.begun has (w.made id r e) (leb-true _ _ early)
   timed_says w has r e false late = is_late w.begun has (w.made id r e) (omega (arith, leb-false r.time b.table.deadline late))
@@ -123,13 +123,13 @@ module _ {ts : List Turn} {b : Last} (id : ℕ) where
   reading_says :
       (shut : Bool) (w : Since ts b shut) → Has b.table.jobs id → (o : Option Report) → report_of b.reports id ≡ o →
       ReadSays ts id (reading b (unheard shut) o)
-  reading_says shut w has none e = unheard_says shut w has e
-  reading_says shut w has (some r) e = timed_says w has r e (leb r.time b.table.deadline) refl
+  reading_says shut w has None e = unheard_says shut w has e
+  reading_says shut w has (Some r) e = timed_says w has r e (leb r.time b.table.deadline) refl
 
   in_table_says : (shut : Bool) (w : Since ts b shut) (o : Option Job) → job_of b.table.jobs id ≡ o → ReadSays ts id (read_in b (unheard shut) id o)
-  in_table_says shut w none e =
-      no_job w.begun (λ h. let j = job_has b.table.jobs id h.0 h.1 h.2 in let z : none ≡ some j.0 = sym e ∙ j.1 in clash (cc))
-  in_table_says shut w (some j) e = reading_says shut w (has_job b.table.jobs id j e) (report_of b.reports id) refl
+  in_table_says shut w None e =
+      no_job w.begun (λ h. let j = job_has b.table.jobs id h.0 h.1 h.2 in let z : None ≡ Some j.0 = sym e ∙ j.1 in clash (cc))
+  in_table_says shut w (Some j) e = reading_says shut w (has_job b.table.jobs id j e) (report_of b.reports id) refl
 
   -- ---- and nothing else does
 
@@ -138,27 +138,27 @@ module _ {ts : List Turn} {b : Last} (id : ℕ) where
     same : Same n b.number jobs b.table steps w.steps since w.later
     same = same_begin l w.begun
 
-    its_job : Has jobs.jobs id → (j : Job) × (job_of b.table.jobs id ≡ some j)
+    its_job : Has jobs.jobs id → (j : Job) × (job_of b.table.jobs id ≡ Some j)
     its_job h = job_has b.table.jobs id h.0 (subst (λ (t : JobTable). Memᴰ h.0 t.jobs) same.tables h.1) h.2
 
-    its_report : (time : ℕ) (v : Float) → Reported since steps n id time v → report_of b.reports id ≡ some (record { job = id; time = time; value = v })
+    its_report : (time : ℕ) (v : Float) → Reported since steps n id time v → report_of b.reports id ≡ Some (record { job = id; time = time; value = v })
     its_report time v r =
         w.heard id time v
         (subst (λ (x : List plan.Step). Reported w.later x b.number id time v) same.plans
         (subst (λ (x : ℕ). Reported w.later steps x id time v) same.numbers
         (subst (λ (x : List Turn). Reported x steps n id time v) same.turns r)))
 
-    no_report : Unreported since steps n id → (o : Option Report) → report_of b.reports id ≡ o → o ≡ none
-    no_report un none e = refl
-    no_report un (some r) e =
+    no_report : Unreported since steps n id → (o : Option Report) → report_of b.reports id ≡ o → o ≡ None
+    no_report un None e = refl
+    no_report un (Some r) e =
         absurd (un r.time r.value
         (subst (λ (x : List plan.Step). Reported since x n id r.time r.value) (sym same.plans)
         (subst (λ (x : ℕ). Reported since w.steps x id r.time r.value) (sym same.numbers)
         (subst (λ (x : List Turn). Reported x w.steps b.number id r.time r.value) (sym same.turns) (w.made id r e)))))
 
-    not_there : (Has jobs.jobs id → ⊥) → (o : Option Job) → job_of b.table.jobs id ≡ o → o ≡ none
-    not_there un none e = refl
-    not_there un (some j) e = absurd (un (subst (λ (t : JobTable). Has t.jobs id) (sym same.tables) (has_job b.table.jobs id j e)))
+    not_there : (Has jobs.jobs id → ⊥) → (o : Option Job) → job_of b.table.jobs id ≡ o → o ≡ None
+    not_there un None e = refl
+    not_there un (Some j) e = absurd (un (subst (λ (t : JobTable). Has t.jobs id) (sym same.tables) (has_job b.table.jobs id j e)))
 
   only_says : (shut : Bool) (w : Since ts b shut) (q : Reply) → ReadSays ts id q → q ≡ reads b (unheard shut) id
   only_says shut w q (never_begun all) = absurd (never_and_last all w.begun)
@@ -220,7 +220,7 @@ stands_behind ts id q (is_missing l has un shut_then) number v e = let z = ap (�
 -- the insurer's sentence: a read that says 0, 0, a number and a value
 pub safe :
     (before : List Turn) (id number : ℕ) (v : Float) (after : List Turn) →
-    FromIdle (before ++ (record { call = event (E.Read id); said = record { numbers = 0 ∷ 0 ∷ number ∷ []; float = some v } } ∷ after)) →
+    FromIdle (before ++ (record { call = event (E.Read id); said = record { numbers = 0 ∷ 0 ∷ number ∷ []; float = Some v } } ∷ after)) →
     Behind before id number v
 safe before id number v after run =
     stands_behind before id (fresh number v) ((reads_says before id (fresh number v) after run (fresh number v)).0 refl) number v refl

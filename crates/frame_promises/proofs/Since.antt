@@ -7,7 +7,7 @@ use mathlib.Core.Logic.{◌⊎◌, inl, inr, ⊎_elim}
 use mathlib.Core.List.Memᴰ
 use mathlib.Core.List.{List, [], ◌∷◌, ◌++◌, append_assoc, Memᴰ}
 use mathlib.Core.List.Permᴰ
-use mathlib.Core.Option.{some, none}
+use Rattle.std.specs.Prelude.{Some, None}
 use borrow.Author.Tests.{eqb-true, eqb-false}
 use lib.Dec.{ltb, eqb}
 use lib.Ieee.{Float}
@@ -85,8 +85,8 @@ pub record Since (ts : List Turn) (b : Last) (shut : Bool) : Type 0 where
   pub ahead : All (λ (x : plan.Step). Memᴰ x steps) b.to_come
   pub heard :
       (id time : ℕ) (v : Float) → Reported later steps b.number id time v →
-      report_of b.reports id ≡ some (record { job = id; time = time; value = v })
-  pub made : (id : ℕ) (r : Report) → report_of b.reports id ≡ some r → Reported later steps b.number id r.time r.value
+      report_of b.reports id ≡ Some (record { job = id; time = time; value = v })
+  pub made : (id : ℕ) (r : Report) → report_of b.reports id ≡ Some r → Reported later steps b.number id r.time r.value
   pub ended : Ended shut later
 
 abbrev pub Traced : List Turn → History → Type 0
@@ -157,8 +157,8 @@ ended_still false later t never e = λ w. ⊎_elim (λ d. e (w.0, d)) (λ d. nev
 
 -- no job that is to come or out has been heard of
 pub record OneReport (b : Last) : Type 0 where
-  pub next_silent : (x : plan.Step) (xs : List plan.Step) → b.to_come ≡ x ∷ xs → report_of b.reports x.id ≡ none
-  pub out_silent : (id : ℕ) → used b.out id ≡ true → report_of b.reports id ≡ none
+  pub next_silent : (x : plan.Step) (xs : List plan.Step) → b.to_come ≡ x ∷ xs → report_of b.reports x.id ≡ None
+  pub out_silent : (id : ℕ) → used b.out id ≡ true → report_of b.reports id ≡ None
 
 abbrev pub Clear : History → Type 0
 Clear idle = Unit {0}
@@ -183,23 +183,23 @@ module _ {ts : List Turn} {b : Last} {shut : Bool} (w : Since ts b shut) (t : Tu
     }
 
   -- a turn that reports a job of which nothing was heard
-  module _ (job time : ℕ) (v : Float) (silent : report_of b.reports job ≡ none)
+  module _ (job time : ℕ) (v : Float) (silent : report_of b.reports job ≡ None)
       (reports : Reported (t ∷ []) w.steps b.number job time v)
       (only : (i s : ℕ) (u : Float) → Reported (t ∷ []) w.steps b.number i s u → (job ≡ i) × (time ≡ s) × (v ≡ u)) where
     abbrev report : Report
     report = record { job = job; time = time; value = v }
 
-    old_heard : (i : ℕ) (r : Report) → report_of b.reports i ≡ some r → report_of (report ∷ b.reports) i ≡ some r
-    old_heard i r e = report_other report b.reports i (λ same. let z : none ≡ some r = sym silent ∙ ap (report_of b.reports) same ∙ e in clash (cc)) ∙ e
+    old_heard : (i : ℕ) (r : Report) → report_of b.reports i ≡ Some r → report_of (report ∷ b.reports) i ≡ Some r
+    old_heard i r e = report_other report b.reports i (λ same. let z : None ≡ Some r = sym silent ∙ ap (report_of b.reports) same ∙ e in clash (cc)) ∙ e
 
-    new_heard : (i s : ℕ) (u : Float) → (job ≡ i) × (time ≡ s) × (v ≡ u) → report_of (report ∷ b.reports) i ≡ some (record { job = i; time = s; value = u })
-    new_heard i s u (p, q, r) = report_same report b.reports i p ∙ (λ k. some (record { job = p k; time = q k; value = r k }))
+    new_heard : (i s : ℕ) (u : Float) → (job ≡ i) × (time ≡ s) × (v ≡ u) → report_of (report ∷ b.reports) i ≡ Some (record { job = i; time = s; value = u })
+    new_heard i s u (p, q, r) = report_same report b.reports i p ∙ (λ k. Some (record { job = p k; time = q k; value = r k }))
 
     new_made :
-        (i : ℕ) (r : Report) → report_of (report ∷ b.reports) i ≡ some r → (c : Bool) → eqb job i ≡ c →
+        (i : ℕ) (r : Report) → report_of (report ∷ b.reports) i ≡ Some r → (c : Bool) → eqb job i ≡ c →
         Reported (w.later ++ (t ∷ [])) w.steps b.number i r.time r.value
     new_made i r e true is =
-        let same : report ≡ r = let z : some report ≡ some r = sym (report_same report b.reports i (eqb-true job i is)) ∙ e in cc in
+        let same : report ≡ r = let z : Some report ≡ Some r = sym (report_same report b.reports i (eqb-true job i is)) ∙ e in cc in
         let now : Reported (w.later ++ (t ∷ [])) w.steps b.number job time v = reported_right w.later reports in
         subst (λ (x : Report). Reported (w.later ++ (t ∷ [])) w.steps b.number i x.time x.value) same (rw (eqb-true job i is) at now)
     new_made i r e false is =

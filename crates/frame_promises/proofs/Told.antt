@@ -6,7 +6,7 @@ use native.Mathlib.Numerals.{add-one}
 use mathlib.Core.Path.{◌≡◌, refl, sym, ◌∙◌, ap, subst}
 use mathlib.Core.Bool.{Bool, true, false, cond, ◌&&◌}
 use mathlib.Core.List.{List, [], ◌∷◌}
-use mathlib.Core.Option.{Option, some, none}
+use Rattle.std.specs.Prelude.{Option, Some, None}
 use borrow.Author.Tests.{ltb-true, ltb-false}
 use lib.ListN.{get_or, drop}
 use lib.Seq.{drop-cons}
@@ -43,8 +43,6 @@ use Rattle.frame_record.specs.declared.Standing.TheVariants as stands
 use Rattle.frame_record.specs.declared.Frame.{Frame}
 use Rattle.frame_record.specs.declared.Answer.{Answer}
 use Rattle.frame_record.specs.declared.Answer.TheVariants.{Panel, Rest, Read}
-use Rattle.lookup.specs.declared.Found.{Found}
-use Rattle.lookup.specs.declared.Found.TheVariants.{At, Nowhere}
 use Rattle.frame_record.specs.declared.Event.{Event}
 use Rattle.frame_record.specs.declared.Event.TheVariants as E
 use Rattle.frame_record.specs.declared.Called.{Called}
@@ -90,12 +88,12 @@ module _ (f : Frame) (fine : Fine f) where
 
   -- ---- a job by its id
 
-  somewhere : (id i : ℕ) → where_is f id ≡ At i → (i < f.count) × ((entry_at f.entries i).id ≡ id)
+  somewhere : (id i : ℕ) → where_is f id ≡ Some i → (i < f.count) × ((entry_at f.entries i).id ≡ id)
   unfolding where_is
   somewhere id i e =
       (omega (arith, first_below entry_id S.none f.entries id 0 f.count i e), first_has entry_id S.none f.entries id 0 f.count i e)
 
-  nowhere : (id : ℕ) → where_is f id ≡ Nowhere → (i : ℕ) → i < f.count → (entry_at f.entries i).id ≡ id → ⊥
+  nowhere : (id : ℕ) → where_is f id ≡ None → (i : ℕ) → i < f.count → (entry_at f.entries i).id ≡ id → ⊥
   unfolding where_is
   nowhere id e i h is =
       let m = first_some entry_id S.none f.entries id 0 f.count i (omega arith) (omega arith) is in clash (cc m.1)
@@ -106,26 +104,26 @@ module _ (f : Frame) (fine : Fine f) where
     heard :
         (p : Phase) (x : Report) (w : Bool) →
         answer_says (Read (reading_of p (cond w (stands.Held (record { value = x.value; frame = b.number })) stands.Late))) ≡
-        cond w (record { numbers = 0 ∷ 0 ∷ b.number ∷ []; float = some x.value }) (says (0 ∷ 2 ∷ []))
+        cond w (record { numbers = 0 ∷ 0 ∷ b.number ∷ []; float = Some x.value }) (says (0 ∷ 2 ∷ []))
     heard p x true = refl
     heard p x false = refl
 
     reading_is :
         (out : Bool) (o : Option Report) (s : Standing) → Stood f.number f.deadline out o s →
         answer_says (Read (reading_of f.phase s)) ≡ reading b unreported o
-    reading_is out none stands.Waiting w = says_so
-    reading_is out none stands.Out w = says_so
-    reading_is out none (stands.Held x) w = absurd w
-    reading_is out none stands.Late w = absurd w
-    reading_is out (some r) s w = rw (w.0, a.due, a.numbered) (heard f.phase r (leb r.time b.table.deadline))
+    reading_is out None stands.Waiting w = says_so
+    reading_is out None stands.Out w = says_so
+    reading_is out None (stands.Held x) w = absurd w
+    reading_is out None stands.Late w = absurd w
+    reading_is out (Some r) s w = rw (w.0, a.due, a.numbered) (heard f.phase r (leb r.time b.table.deadline))
 
-    read_at_lem : (id : ℕ) (w : Found) → where_is f id ≡ w → answer_says (read_at f w) ≡ reads b unreported id
-    read_at_lem id (At i) e =
+    read_at_lem : (id : ℕ) (w : Option ℕ) → where_is f id ≡ w → answer_says (read_at f w) ≡ reads b unreported id
+    read_at_lem id (Some i) e =
         let h = somewhere id i e in
         let j = in_table b.table.jobs id i (omega (arith, h.0, a.counted)) (sym (a.jobs i h.0) ∙ h.1) in
         rw j.1
         (reading_is (used b.out id) (report_of b.reports id) (entry_at f.entries i).standing (rw h.1 at (a.stands i h.0)))
-    read_at_lem id Nowhere e =
+    read_at_lem id None e =
         rw (not_in_table b.table.jobs id
         (λ i h is. nowhere id e i (omega (arith, h, a.counted)) (a.jobs i (omega (arith, h, a.counted)) ∙ is)))
 
@@ -235,19 +233,19 @@ module _ (f : Frame) (fine : Fine f) where
       back_at :
           (i : ℕ) → i < f.count → (entry_at f.entries i).id ≡ id → (p : Option Report) (s : Standing) →
           Stood f.number f.deadline (used b.out id) p s → Fits B H (return_at f i t v s) back_reply
-      back_at i h named none stands.Waiting w = rw w (refuses B R.Who)
-      back_at i h named none stands.Out w =
+      back_at i h named None stands.Waiting w = rw w (refuses B R.Who)
+      back_at i h named None stands.Out w =
           rw w (same B H (finite? v) _ _ _ _ (λ _. taken i h named) (λ _. refuses B R.Value))
-      back_at i h named none (stands.Held x) w = absurd w
-      back_at i h named none stands.Late w = absurd w
-      back_at i h named (some r) s w =
+      back_at i h named None (stands.Held x) w = absurd w
+      back_at i h named None stands.Late w = absurd w
+      back_at i h named (Some r) s w =
           subst (λ (x : Standing). Fits B H (return_at f i t v x) back_reply) (sym w.0) (rw w.1 (heard_of i r (leb r.time f.deadline)))
 
-      back_to_lem : (w : Found) → where_is f id ≡ w → Fits B H (back_to f t v w) back_reply
-      back_to_lem (At i) e =
+      back_to_lem : (w : Option ℕ) → where_is f id ≡ w → Fits B H (back_to f t v w) back_reply
+      back_to_lem (Some i) e =
           let w = somewhere id i e in
           back_at i w.0 w.1 (report_of b.reports id) (entry_at f.entries i).standing (rw w.1 at (a.stands i w.0))
-      back_to_lem Nowhere e = rw (a.strangers id (nowhere id e)) (refuses B R.Who)
+      back_to_lem None e = rw (a.strangers id (nowhere id e)) (refuses B R.Who)
 
       back_fits : Fits B H (back_step f n id t v) (returns b n id t v)
       unfolding back_step
@@ -275,10 +273,10 @@ module _ (f : Frame) (fine : Fine f) where
     open_fits (E.Read id) = asked (read_of f id) _ (read_is b a _ (rw is) id (begun_is Open is)) (E.Read id) refl
 
     -- of no job that is to come or out has anything been heard
-    next_silent : (x : plan.Step) (xs : List plan.Step) → b.to_come ≡ x ∷ xs → report_of b.reports x.id ≡ none
+    next_silent : (x : plan.Step) (xs : List plan.Step) → b.to_come ≡ x ∷ xs → report_of b.reports x.id ≡ None
     next_silent x xs e = at (ltb f.next f.count) refl
       where
-        at : (w : Bool) → ltb f.next f.count ≡ w → report_of b.reports x.id ≡ none
+        at : (w : Bool) → ltb f.next f.count ≡ w → report_of b.reports x.id ≡ None
         at true q =
             let h : f.next < f.count = ltb-true _ _ q in
             let same : get_or a.plan f.next no_step ≡ x = let z = sym (now h) ∙ e in cc in
@@ -286,18 +284,18 @@ module _ (f : Frame) (fine : Fine f) where
         at false q = let z : [] ≡ x ∷ xs = sym (over q) ∙ e in clash (cc)
 
     stood_silent :
-        (out : Bool) → out ≡ true → (p : Option Report) (s : Standing) → Stood f.number f.deadline out p s → p ≡ none
-    stood_silent out is none s w = refl
-    stood_silent out is (some r) s w = absurd (false_true (sym w.1 ∙ is))
+        (out : Bool) → out ≡ true → (p : Option Report) (s : Standing) → Stood f.number f.deadline out p s → p ≡ None
+    stood_silent out is None s w = refl
+    stood_silent out is (Some r) s w = absurd (false_true (sym w.1 ∙ is))
 
-    out_silent : (id : ℕ) → used b.out id ≡ true → report_of b.reports id ≡ none
+    out_silent : (id : ℕ) → used b.out id ≡ true → report_of b.reports id ≡ None
     out_silent id e = at (where_is f id) refl
       where
-        at : (w : Found) → where_is f id ≡ w → report_of b.reports id ≡ none
-        at (At i) q =
+        at : (w : Option ℕ) → where_is f id ≡ w → report_of b.reports id ≡ None
+        at (Some i) q =
             let w = somewhere id i q in
             stood_silent (used b.out id) e (report_of b.reports id) (entry_at f.entries i).standing (rw w.1 at (a.stands i w.0))
-        at Nowhere q = absurd (false_true (sym (a.strangers id (nowhere id q)) ∙ e))
+        at None q = absurd (false_true (sym (a.strangers id (nowhere id q)) ∙ e))
 
   pub clear : (h : History) → Tells f h → Clear h
   clear idle a = tt

@@ -1,7 +1,7 @@
 -- Document 01, 'The frame runner', told of calls and answers alone: what the calls so far have come to, and what the next one is answered,
 -- in the document's numbers. No frame record is looked at: proofs/Told.antt has that the runner answers so. Assumes nothing.
 use Rattle.std.specs.Prelude.{ℕ, Bool, true, cond, List, [], ◌∷◌, get_or, leb, ltb, eqb, Float}
-use Rattle.std.proofs.Math.Option.{Option, none, some}
+use Rattle.std.specs.Prelude.{Option, None, Some}
 use Rattle.model.specs.declared.Job.{Job}
 use Rattle.records.specs.Records.{used}
 use Rattle.records.specs.Refusals.{Outcome, accepted, refused, refusal_says}
@@ -88,19 +88,19 @@ closes b t = on_clock b t (cond (ltb t b.table.deadline) (refuse 17) done)
 
 -- "Read: PHASE if idle; WHO if not in the table; else fresh with its value, pending, late, or missing (closed, never reported)"
 unfoldable pub report_of : List Report → ℕ → Option Report
-report_of [] id = none
-report_of (r ∷ rs) id = cond (eqb r.job id) (some r) (report_of rs id)
+report_of [] id = None
+report_of (r ∷ rs) id = cond (eqb r.job id) (Some r) (report_of rs id)
 
 abbrev pub fresh : ℕ → Float → Reply
-fresh number v = record { numbers = 0 ∷ 0 ∷ number ∷ []; float = some v }
+fresh number v = record { numbers = 0 ∷ 0 ∷ number ∷ []; float = Some v }
 
 abbrev pub reading : Last → Reply → Option Report → Reply
-reading b unreported none = unreported
-reading b unreported (some r) = cond (leb r.time b.table.deadline) (fresh b.number r.value) (says (0 ∷ 2 ∷ []))
+reading b unreported None = unreported
+reading b unreported (Some r) = cond (leb r.time b.table.deadline) (fresh b.number r.value) (says (0 ∷ 2 ∷ []))
 
 abbrev pub read_in : Last → Reply → ℕ → Option Job → Reply
-read_in b unreported id none = refuse 15
-read_in b unreported id (some j) = reading b unreported (report_of b.reports id)
+read_in b unreported id None = refuse 15
+read_in b unreported id (Some j) = reading b unreported (report_of b.reports id)
 
 abbrev pub reads : Last → Reply → ℕ → Reply
 reads b unreported id = read_in b unreported id (job_of b.table.jobs id)

@@ -1,5 +1,6 @@
 -- Laws of the definitions that go position by position: a turn of each loop and its end; and what the tests of a record say.
 -- Assumes nothing.
+use Rattle.std.specs.Prelude.{Some}
 use mathlib.Core.Path.{◌≡◌, sym}
 use mathlib.Core.Logic.{inl, inr}
 use mathlib.Core.List.{List}
@@ -9,7 +10,6 @@ use borrow.Author.Tests.{leb-true, ltb-true}
 use Prim.Native.Nat.{ℕ, zero, suc, ◌+◌, ◌-◌, ◌<◌, ◌≤◌}
 use native.Mathlib.Omega.{arith}
 use Rattle.model.proofs.Tests.{false_true, and_left, and_right}
-use Rattle.lookup.specs.declared.Found.TheVariants.{At}
 use Rattle.lookup.proofs.Lookup.{first_below}
 use Rattle.frame_record.specs.Sound.{none, position_at, entry_id, where_is, ok_order, ok_at, ok_from, ok_counts}
 use Rattle.frame_record.specs.Sound.{ok_deadline, ok_begun, ok_in, phase_in, is_open}
@@ -36,7 +36,7 @@ module _ (f : Frame) (k c : ℕ) where
   ok_end h = rw (over k c h)
 
 -- a job that stands in the table stands below its end
-pub where_below : (f : Frame) (id i : ℕ) → where_is f id ≡ At i → i < f.count
+pub where_below : (f : Frame) (id i : ℕ) → where_is f id ≡ Some i → i < f.count
 unfolding where_is
 where_below f id i e = omega (arith, first_below entry_id none f.entries id 0 f.count i e)
 

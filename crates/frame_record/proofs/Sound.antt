@@ -1,4 +1,5 @@
 -- The test that every call makes first is the list of specs/Listed.antt: `sound_iff`. Assumes nothing.
+use Rattle.std.specs.Prelude.{Option, None, Some}
 use Prim.Native.Nat.{ℕ, zero, suc, ◌+◌, ◌≤◌, ◌<◌}
 use native.Mathlib.Omega.{arith}
 use mathlib.Core.Path.{◌≡◌, refl, ap}
@@ -18,17 +19,15 @@ use Rattle.frame_record.specs.declared.Phase.TheVariants.{Idle, Open, Closed}
 use Rattle.frame_record.specs.declared.Standing.{Standing}
 use Rattle.frame_record.specs.declared.Standing.TheVariants.{Waiting, Out, Held, Late}
 use Rattle.frame_record.specs.declared.Frame.{Frame}
-use Rattle.lookup.specs.declared.Found.{Found}
-use Rattle.lookup.specs.declared.Found.TheVariants.{At, Nowhere}
 use Rattle.lookup.proofs.Lookup.{first_least, first_found}
 use Rattle.model.proofs.Tests.{false_true, and_left, and_right, and_both}
 use Rattle.frame_record.proofs.Laws.{at_each, order_below, open_begun}
 
 -- ---- no position before has the key
 
-is_at_lem : (w : Found) (k : ℕ) → is_at w k ≡ true → w ≡ At k
-is_at_lem (At i) k e = ap At (eqb-true i k e)
-is_at_lem Nowhere k e = absurd (false_true e)
+is_at_lem : (w : Option ℕ) (k : ℕ) → is_at w k ≡ true → w ≡ Some k
+is_at_lem (Some i) k e = ap Some (eqb-true i k e)
+is_at_lem None k e = absurd (false_true e)
 
 module _ {A : Type 0} (key : A → ℕ) (d : A) (xs : List A) (n k : ℕ) where
   abbrev Own : Bool

@@ -1,7 +1,7 @@
 -- Document 01, 'The frame runner': what each answer says, a record before any frame, and what all calls share.
 -- Assumes nothing.
 use Rattle.std.specs.Prelude.{ℕ, cond, List, [], ◌∷◌, replicate, ltb, Float}
-use Rattle.std.proofs.Math.Option.{Option, none, some}
+use Rattle.std.specs.Prelude.{Option, None, Some}
 use Rattle.records.specs.Limits.{most_jobs}
 use Rattle.records.specs.declared.refusal.Refusal.{Refusal}
 use Rattle.records.specs.declared.refusal.Refusal.TheVariants as R
@@ -22,11 +22,11 @@ pub record Reply : Type 0 where
   pub float : Option Float
 
 abbrev pub says : List ℕ → Reply
-says ns = record { numbers = ns; float = none }
+says ns = record { numbers = ns; float = None }
 
 -- "fresh with its value, pending, late, or missing", numbered in this order; a fresh one with the number of its frame
 abbrev pub reading_says : Reading → Reply
-reading_says (reads.Fresh x) = record { numbers = 0 ∷ 0 ∷ x.frame ∷ []; float = some x.value }
+reading_says (reads.Fresh x) = record { numbers = 0 ∷ 0 ∷ x.frame ∷ []; float = Some x.value }
 reading_says reads.Pending = says (0 ∷ 1 ∷ [])
 reading_says reads.Late = says (0 ∷ 2 ∷ [])
 reading_says reads.Missing = says (0 ∷ 3 ∷ [])

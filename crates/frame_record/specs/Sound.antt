@@ -1,6 +1,6 @@
 -- Document 01, 'The frame runner': "docs/ lists what makes a frame record sound". The list as a test, which every call makes first.
 -- specs/Listed.antt has the list in words, and proofs/Sound.antt that the test is that list. Assumes nothing.
-use Rattle.std.specs.Prelude.{ℕ, zero, suc, ◌+◌, Bool, true, false, not, ◌&&◌, List, get_or, leb, ltb, eqb}
+use Rattle.std.specs.Prelude.{ℕ, zero, suc, ◌+◌, Bool, true, false, not, ◌&&◌, List, get_or, leb, ltb, eqb, Option, None, Some}
 use Rattle.records.specs.Limits.{most_jobs, largest_time}
 use Rattle.frame_record.specs.Finite.{finite?}
 use Rattle.frame_record.specs.declared.Phase.{Phase}
@@ -10,8 +10,6 @@ use Rattle.frame_record.specs.declared.Standing.TheVariants.{Waiting, Out, Held,
 use Rattle.frame_record.specs.declared.Entry.{Entry}
 use Rattle.frame_record.specs.declared.Frame.{Frame}
 use Rattle.lookup.specs.Lookup.{first}
-use Rattle.lookup.specs.declared.Found.{Found}
-use Rattle.lookup.specs.declared.Found.TheVariants.{At, Nowhere}
 
 abbrev pub none : Entry
 none = record { id = 0; away = false; standing = Waiting }
@@ -27,7 +25,7 @@ abbrev pub entry_id : Entry → ℕ
 entry_id e = e.id
 
 -- where the job of an id stands in the table
-unfoldable pub where_is : Frame → ℕ → Found
+unfoldable pub where_is : Frame → ℕ → Option ℕ
 where_is f id = first entry_id none f.entries id 0 f.count
 
 -- the job now on the panel: the one that the plan is at
@@ -40,9 +38,9 @@ panel_entry f = entry_at f.entries (panel_position f)
 abbrev pub itself : ℕ → ℕ
 itself n = n
 
-abbrev pub is_at : Found → ℕ → Bool
-is_at (At i) k = eqb i k
-is_at Nowhere k = false
+abbrev pub is_at : Option ℕ → ℕ → Bool
+is_at (Some i) k = eqb i k
+is_at None k = false
 
 -- of the first `count`, none before the k-th has its id
 unfoldable pub ok_id : List Entry → ℕ → ℕ → Bool

@@ -8,7 +8,6 @@ ghost use Rattle.frame_record.specs.Finite.{finite?};
 ghost use Rattle.frame_record.specs.Sound.{where_is, ok_entry, ok_from, ok_begun, sound?, phase_in};
 ghost use Rattle.frame_record.specs.Answers.{idle, refused};
 
-use lookup::Found;
 use records::refusal::Refusal;
 use table::Table;
 
@@ -258,7 +257,7 @@ impl Frame {
     }
 
     // Where the job of an id stands in the table.
-    pub fn position_of(self, id: u8) -> Found
+    pub fn position_of(self, id: u8) -> Option<usize>
         requires { self.count ≤ most_jobs }
         ensures { result ≡ where_is self id }
     {
@@ -267,10 +266,10 @@ impl Frame {
         while i < count {
             let e = self.entries[i];
             if e.id == id {
-                return Found::At(i);
+                return Some(i);
             }
             i += 1;
         }
-        Found::Nowhere
+        None
     }
 }

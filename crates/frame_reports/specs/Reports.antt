@@ -1,6 +1,6 @@
 -- Document 01, 'The frame runner': the rules of a span's end and of a return, by cases and in the document's order.
 -- Assumes nothing.
-use Rattle.std.specs.Prelude.{ℕ, ◌+◌, Bool, true, false, cond, ◌&&◌, set, leb, ltb, eqb, Float}
+use Rattle.std.specs.Prelude.{ℕ, ◌+◌, Bool, true, false, cond, ◌&&◌, set, leb, ltb, eqb, Float, Option, None, Some}
 use Rattle.records.specs.declared.refusal.Refusal.TheVariants as R
 use Rattle.frame_record.specs.Finite.{finite?}
 use Rattle.frame_record.specs.Sound.{entry_at, where_is, panel_position, panel_entry}
@@ -9,8 +9,6 @@ use Rattle.frame_record.specs.declared.Standing.{Standing}
 use Rattle.frame_record.specs.declared.Standing.TheVariants.{Waiting, Out, Held, Late}
 use Rattle.frame_record.specs.declared.Entry.{Entry}
 use Rattle.frame_record.specs.declared.Frame.{Frame}
-use Rattle.lookup.specs.declared.Found.{Found}
-use Rattle.lookup.specs.declared.Found.TheVariants.{At, Nowhere}
 use Rattle.frame_record.specs.declared.Called.{Called}
 
 -- "gets its value if time <= D, else is late"
@@ -61,9 +59,9 @@ return_at f at t v Out =
 return_at f at t v (Held s) = refused R.Who f
 return_at f at t v Late = refused R.Who f
 
-abbrev pub back_to : Frame → ℕ → Float → Found → Called
-back_to f t v (At i) = return_at f i t v (entry_at f.entries i).standing
-back_to f t v Nowhere = refused R.Who f
+abbrev pub back_to : Frame → ℕ → Float → Option ℕ → Called
+back_to f t v (Some i) = return_at f i t v (entry_at f.entries i).standing
+back_to f t v None = refused R.Who f
 
 -- "PHASE unless open; NUMBER; CLOCK; WHO; VALUE"
 unfoldable pub back_step : Frame → ℕ → ℕ → ℕ → Float → Called

@@ -8,7 +8,6 @@ ghost use Rattle.frame_record.specs.Answers.{done};
 ghost use Rattle.frame_reports.specs.Reports.{judge, moved, span_at, span_step, return_at, back_step};
 
 use frame_record::{Answer, Called, Entry, Frame, Sample, Standing, finite};
-use lookup::Found;
 use records::refusal::Refusal;
 
 // What a value that comes at a time makes of its job.
@@ -118,12 +117,12 @@ pub fn give_back(f: Frame, number: u32, id: u8, time: u16, value: f32) -> Called
     }
     let found = f.position_of(id);
     match found {
-        Found::At(i) => {
+        Some(i) => {
             let e = f.entries[i];
             let s = e.standing;
             return back_at(f, i, time, value, s);
         }
-        Found::Nowhere => {
+        None => {
             return f.refuse(Refusal::Who);
         }
     }

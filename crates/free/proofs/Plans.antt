@@ -3,7 +3,7 @@
 use mathlib.Core.Path.{◌≡◌, refl, sym, ap, ◌∙◌}
 use mathlib.Core.Bool.{true, false}
 use mathlib.Core.List.{List, [], ◌++◌}
-use mathlib.Core.Option.{some}
+use Rattle.std.specs.Prelude.{Some}
 use Prim.Native.Nat.{ℕ, ◌≤◌}
 use native.Mathlib.Omega.{arith}
 use lib.ListN.{length, length-append}
@@ -86,4 +86,4 @@ module _ (js : List Job) (sound : SoundJobs js) (D : ℕ) where
         → ◌≡◌ {A = Drafted} (record { found = true; draft = r }) (drafted_of (free most_jobs D js))
     found_plan r h =
         (λ k. record { found = true; draft = h k })
-        ∙ (ap (λ (xs : List Chosen). drafted_of (some xs)) (sym in_parts) ∙ ap (λ (c : Cell). drafted_of (plan_found most_jobs js c)) (sym with_total.1))
+        ∙ (ap (λ (xs : List Chosen). drafted_of (Some xs)) (sym in_parts) ∙ ap (λ (c : Cell). drafted_of (plan_found most_jobs js c)) (sym with_total.1))

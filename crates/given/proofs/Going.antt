@@ -3,7 +3,7 @@
 use mathlib.Core.Path.{◌≡◌, refl, sym, ap, ◌∙◌}
 use mathlib.Core.Bool.{Bool, true, false}
 use mathlib.Core.List.{List, [], ◌∷◌, ◌++◌, append_assoc, append-nil}
-use mathlib.Core.Option.{Option, none, some}
+use Rattle.std.specs.Prelude.{Option, None, Some}
 use Prim.Native.Nat.{ℕ, ◌+◌, ◌≤◌, ◌<◌}
 use native.Mathlib.Omega.{arith}
 use native.Mathlib.Numerals.{add-one}
@@ -29,12 +29,12 @@ use Rattle.plan.proofs.Steps.{steps_length}
 
 -- what is found later stands behind what is placed
 abbrev pub behind : List Chosen → Option (List Chosen) → Option (List Chosen)
-behind cs none = none
-behind cs (some ds) = some (cs ++ ds)
+behind cs None = None
+behind cs (Some ds) = Some (cs ++ ds)
 
 behind_put : (cs : List Chosen) (c : Chosen) (o : Option (List Chosen)) → behind cs (put c o) ≡ behind (cs ++ (c ∷ [])) o
-behind_put cs c none = refl
-behind_put cs c (some ds) = ap some (sym (append_assoc cs (c ∷ []) ds))
+behind_put cs c None = refl
+behind_put cs c (Some ds) = ap Some (sym (append_assoc cs (c ∷ []) ds))
 
 pub record Going (D : ℕ) (js : List Job) (draft : Draft) (i : ℕ) : Type 0 where
   pub placed : List Chosen
@@ -49,14 +49,14 @@ module _ (D : ℕ) (js : List Job) where
   going_begin draft e = record { placed = []; held = e; count = refl; within = omega arith; early = omega arith; rest = front (given D 0 js) }
     where
       front : (o : Option (List Chosen)) → behind [] o ≡ o
-      front none = refl
-      front (some ds) = refl
+      front None = refl
+      front (Some ds) = refl
 
   pub going_end : (draft : Draft) (i : ℕ) → length js ≤ i → Going D js draft i
       → ◌≡◌ {A = Drafted} (record { found = true; draft = draft }) (drafted_of (given D 0 js))
   going_end draft i h g =
       let none_left : drop i js ≡ [] = drop_of_length-le js {i = i} h in
-      let all : some g.placed ≡ given D 0 js = ap some (sym (append-nil g.placed))
+      let all : Some g.placed ≡ given D 0 js = ap Some (sym (append-nil g.placed))
       ∙ ap (λ (l : List Job). behind g.placed (given D (busy g.placed) l)) (sym none_left) ∙ g.rest in
       (λ k. record { found = true; draft = g.held k }) ∙ ap drafted_of all
 
@@ -78,11 +78,11 @@ module _ (D : ℕ) (js : List Job) where
         ap drafted_of (sym (sym g.rest
         ∙ ap (behind g.placed) (stop (decide D (busy g.placed) job) refl (e ∙ ap (λ (t : ℕ). decision_of (decide D t job)) now))))
       where
-        stop : (o : Option Chosen) → decide D (busy g.placed) job ≡ o → Neither ≡ decision_of o → given D (busy g.placed) (drop i js) ≡ none
-        stop none q h =
+        stop : (o : Option Chosen) → decide D (busy g.placed) job ≡ o → Neither ≡ decision_of o → given D (busy g.placed) (drop i js) ≡ None
+        stop None q h =
             rw onward (ap (λ (o : Option Chosen). elim o as (λ (x : Option Chosen). Option (List Chosen))
-            [ none ↦ none | some x ↦ put x (given D (busy g.placed + span x) (drop (i + 1) js)) ]) q)
-        stop (some c) q h = clash (cc)
+            [ None ↦ None | Some x ↦ put x (given D (busy g.placed + span x) (drop (i + 1) js)) ]) q)
+        stop (Some c) q h = clash (cc)
 
     pub going_more : (away : Bool) → Run away ≡ decision_of (decide D draft.laid.busy job) → length js ≤ most_jobs
         → Going D js (with_chosen draft (chosen job away)) (i + 1)
@@ -91,7 +91,7 @@ module _ (D : ℕ) (js : List Job) where
         new : Chosen
         new = chosen job away
 
-        build : decide D (busy g.placed) job ≡ some new → Going D js (with_chosen draft new) (i + 1)
+        build : decide D (busy g.placed) job ≡ Some new → Going D js (with_chosen draft new) (i + 1)
         build q =
             let f = decide_fits D (busy g.placed) job new q in
             let b : busy (g.placed ++ (new ∷ [])) ≡ busy g.placed + span new = omega (arith, total_append span g.placed (new ∷ [])) in
@@ -110,10 +110,10 @@ module _ (D : ℕ) (js : List Job) where
             }
 
         step : (o : Option Chosen) → decide D (busy g.placed) job ≡ o → Run away ≡ decision_of o → Going D js (with_chosen draft new) (i + 1)
-        step none q h = clash (cc)
-        step (some c) q h =
+        step None q h = clash (cc)
+        step (Some c) q h =
             let s = decide_fits D (busy g.placed) job c q in
             let p : c.job ≡ job = s.0 in
             let w : away ≡ c.away = cc in
             let n : c ≡ new = λ k. record { job = p k; away = (sym w) k } in
-            build (q ∙ ap some n)
+            build (q ∙ ap Some n)

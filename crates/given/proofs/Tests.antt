@@ -2,7 +2,7 @@
 -- Assumes nothing.
 use mathlib.Core.Path.{◌≡◌}
 use mathlib.Core.Bool.{true, false, cond, ◌&&◌}
-use mathlib.Core.Option.{Option, none, some}
+use Rattle.std.specs.Prelude.{Option, None, Some}
 use Prim.Native.Nat.{ℕ, ◌+◌, ◌≤◌, ◌<◌}
 use borrow.Author.Tests.{lt-ltb, le-ltb, le-leb, lt-leb}
 use lib.Dec.{leb, ltb}
@@ -31,7 +31,7 @@ module _ (D t : ℕ) (j : Job) where
     goes_slow h = rw (goes_on, le-ltb _ _ h)
 
   abbrev kept : Option Chosen
-  kept = cond (leb (t + j.local) D) (some (record { job = j; away = false })) none
+  kept = cond (leb (t + j.local) D) (Some (record { job = j; away = false })) None
 
   pub decided_sent : goes D t j ≡ true → Run true ≡ decision_of (decide D t j)
   decided_sent e = rw e

@@ -8,7 +8,7 @@ use mathlib.Core.Bool.{Bool, true, false, cond, not, ◌&&◌, ◌||◌, or-true
 use mathlib.Core.List.Memᴰ
 use mathlib.Core.List.{List, [], ◌∷◌, ◌++◌, map, Memᴰ, Permᴰ}
 use mathlib.Core.List.{append-nil}
-use mathlib.Core.Option.{Option, none, some}
+use Rattle.std.specs.Prelude.{Option, None, Some}
 use lib.ListN.{length, length-map, length-append}
 use lib.Dec.{T}
 use borrow.Author.Tests.{ne_eqb}
@@ -66,7 +66,7 @@ module _ {A B : Type 0} (g : A → B) (id_of : B → ℕ) where
 
 -- the table's job with the id is this one
 abbrev pub Named : List Job → Chosen → Type 0
-Named js c = job_of js c.job.id ≡ some c.job
+Named js c = job_of js c.job.id ≡ Some c.job
 
 -- Steps that are listed as these jobs with their choices.
 pub record ListedAs (js : List Job) (xs : List Step) (cs : List Chosen) : Type 0 where
@@ -75,20 +75,20 @@ pub record ListedAs (js : List Job) (xs : List Step) (cs : List Chosen) : Type 0
   pub named : All (Named js) cs
 
 -- what a step that is let through tells of its job and choice
-chosen_tells : (x : Step) (o : Option Job) (c : Chosen) → chosen_by x o ≡ accepted c → (o ≡ some c.job) × (c.away ≡ x.away) × Allowed c
-chosen_tells x none c e = clash (cc)
-chosen_tells x (some j) c e = step x.away (is_either j) refl e
+chosen_tells : (x : Step) (o : Option Job) (c : Chosen) → chosen_by x o ≡ accepted c → (o ≡ Some c.job) × (c.away ≡ x.away) × Allowed c
+chosen_tells x None c e = clash (cc)
+chosen_tells x (Some j) c e = step x.away (is_either j) refl e
   where
     step :
         (w i : Bool) → is_either j ≡ i → cond (w && not i) (refused Kept) (accepted (chosen j w)) ≡ accepted c →
-        (some j ≡ some c.job) × (c.away ≡ w) × Allowed c
+        (Some j ≡ Some c.job) × (c.away ≡ w) × Allowed c
     step true false q e = clash (cc)
     step true true q e =
         let is : chosen j true ≡ c = cc in
-        (ap (λ (d : Chosen). some d.job) is, ap (λ (d : Chosen). d.away) (sym is), subst Allowed is (subst (λ (b : Bool). T (b || false)) (sym q) tt))
+        (ap (λ (d : Chosen). Some d.job) is, ap (λ (d : Chosen). d.away) (sym is), subst Allowed is (subst (λ (b : Bool). T (b || false)) (sym q) tt))
     step false i q e =
         let is : chosen j false ≡ c = cc in
-        (ap (λ (d : Chosen). some d.job) is, ap (λ (d : Chosen). d.away) (sym is), subst Allowed is (subst T (sym (or-true (is_either j))) tt))
+        (ap (λ (d : Chosen). Some d.job) is, ap (λ (d : Chosen). d.away) (sym is), subst Allowed is (subst T (sym (or-true (is_either j))) tt))
 
 -- a list is accepted only where its first and the others are
 pub before_tells :

@@ -7,7 +7,7 @@ use mathlib.Core.Path.{◌≡◌, refl, sym, ap, ◌∙◌}
 use mathlib.Core.Logic.{◌⊎◌, inl, inr, ⊎_elim}
 use mathlib.Core.Bool.{true, false, not, ◌&&◌}
 use mathlib.Core.List.{List, [], ◌∷◌, ◌++◌, map}
-use mathlib.Core.Option.{none, some}
+use Rattle.std.specs.Prelude.{None, Some}
 use lib.ListN.{length, take, drop, length-take}
 use lib.Seq.{split_at, take-suc, take_all}
 use borrow.Author.Tests.{le-leb, lt-leb}
@@ -109,10 +109,10 @@ module _ (t : JobTable) (plan : List ℕ) (steps : ℕ) where
       unfolding listed
       stops f e = rw (w.reads, next, e)
 
-      pub walk_stranger : job_of t.jobs (step_at plan k).id ≡ none → Fails Stranger ≡ after_plan t (read_plan plan)
+      pub walk_stranger : job_of t.jobs (step_at plan k).id ≡ None → Fails Stranger ≡ after_plan t (read_plan plan)
       walk_stranger e = stops Stranger (rw e)
 
-      module _ (j : Job) (named : job_of t.jobs (step_at plan k).id ≡ some j) where
+      module _ (j : Job) (named : job_of t.jobs (step_at plan k).id ≡ Some j) where
         pub walk_kept : ((step_at plan k).away && not (is_either j)) ≡ true → Fails Kept ≡ after_plan t (read_plan plan)
         walk_kept e = stops Kept (rw (named, e))
 

@@ -1,7 +1,7 @@
 -- Document 01, 'The check': "The proposed plan may come from anybody's program."
 -- `check_plan` says what every table and every plan gets. Assumes nothing.
 use Rattle.std.specs.Prelude.{Bool, false, cond, not, ◌&&◌, ◌||◌, List, [], ◌∷◌, map, ℕ, leb}
-use Rattle.std.proofs.Math.Option.{Option, none, some}
+use Rattle.std.specs.Prelude.{Option, None, Some}
 use Rattle.model.specs.declared.Job.{Job}
 use Rattle.model.specs.Timetable.{Chosen, is_either}
 use Rattle.model.specs.FreeOrder.{busy, last_from}
@@ -23,8 +23,8 @@ checked_says (Fails f) = refusal_says f
 
 -- "STRANGER: plan names an id that the table lacks; KEPT: plan sends a here-only job away"
 abbrev pub chosen_by : Step → Option Job → Outcome Chosen
-chosen_by x none = refused Stranger
-chosen_by x (some j) = cond (x.away && not (is_either j)) (refused Kept) (accepted (chosen j x.away))
+chosen_by x None = refused Stranger
+chosen_by x (Some j) = cond (x.away && not (is_either j)) (refused Kept) (accepted (chosen j x.away))
 
 -- "then record by record": the plan's jobs with their choices, in plan order
 abbrev pub before : Outcome Chosen → Outcome (List Chosen) → Outcome (List Chosen)

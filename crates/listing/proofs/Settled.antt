@@ -3,7 +3,7 @@
 use mathlib.Core.Path.{◌≡◌, refl, ap}
 use mathlib.Core.Bool.{Bool, true, false, cond}
 use mathlib.Core.List.{List, [], ◌∷◌, ◌++◌, map}
-use mathlib.Core.Option.{Option, none, some}
+use Rattle.std.specs.Prelude.{Option, None, Some}
 use Prim.Native.Nat.{ℕ, zero, suc, ◌+◌, ◌-◌, ◌≤◌, ◌<◌}
 use native.Mathlib.Omega.{arith}
 use lib.ListN.{length, take, get_or, length-take}
@@ -88,8 +88,8 @@ module _ (s : List ℕ) (N : ℕ) (enough : 267 ≤ N) where
       (meant form.body (leb form.body (length s - (p.at + 1))) (may form.meaning)))
     where
       meant : (body : ℕ) (whole : Bool) (o : Option K) → allowed refuse read' p body whole o ≡ allowed refuse read p body whole o
-      meant body whole none = refl
-      meant body whole (some k) = ap (λ (r : R). cond whole r (refuse (Short p))) (same (past p body) k)
+      meant body whole None = refl
+      meant body whole (Some k) = ap (λ (r : R). cond whole r (refuse (Short p))) (same (past p body) k)
 
   frame_same : frame_at front start ≡ frame_at s start
   unfolding frame_at

@@ -4,7 +4,7 @@ use mathlib.Core.Path.{◌≡◌, refl, sym, ap, subst}
 use mathlib.Core.Bool.{Bool, true, false}
 use mathlib.Core.List.Permᴰ
 use mathlib.Core.List.{List, [], ◌∷◌}
-use mathlib.Core.Option.{Option, none, some}
+use Rattle.std.specs.Prelude.{Option, None, Some}
 use Prim.Native.Nat.{ℕ, suc, ◌+◌, ◌*◌, ◌≤◌, ◌<◌}
 use native.Mathlib.Omega.{arith}
 use lib.ListN.{length, get_or, length-append}
@@ -19,7 +19,7 @@ use Rattle.model.proofs.PlanOrder.{perm_plan}
 use Rattle.model.proofs.Bounds.{fits_last}
 use Rattle.model.proofs.Workable.{fits_sum}
 use Rattle.model.proofs.Free.{free_best}
-use Rattle.records.specs.declared.refusal.Refusal.TheVariants.{None}
+use Rattle.records.specs.declared.refusal.Refusal.TheVariants as R
 use Rattle.records.specs.Limits.{most_jobs}
 use Rattle.records.specs.Refusals.{refusal_says, Outcome, accepted, refused}
 use Rattle.table.specs.Tables.{JobTable, read_table}
@@ -97,7 +97,7 @@ refused_short : (n p : ℕ) → n < 10 → p < 1000 → length (refused_text (n 
 unfolding refused_text
 refused_short n p h k = simp length-append (omega (arith, few_digits 0 n h, few_digits 2 p k))
 
-none_short : length (refused_text (refusal_says None)) ≤ room_for_text
+none_short : length (refused_text (refusal_says R.None)) ≤ room_for_text
 unfolding refused_text
 none_short = simp length-append (omega (arith, few_digits 0 7 (omega arith)))
 
@@ -109,8 +109,8 @@ module _ (s : List ℕ) (bytes : (i : ℕ) → get_or s i 0 < 256) where
   found_short :
       (t : JobTable) → read_table s ≡ accepted t → (o : Option (List Chosen)) → free most_jobs t.deadline t.jobs ≡ o →
       length (found_text t o) ≤ room_for_text
-  found_short t e none q = none_short
-  found_short t e (some xs) q =
+  found_short t e None q = none_short
+  found_short t e (Some xs) q =
       let good = accepted_good s t e in
       let b = free_best most_jobs t.jobs good.few t.deadline xs q in
       let cs = b.0 in

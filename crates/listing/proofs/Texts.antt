@@ -2,7 +2,7 @@
 -- which settles the answer and the buffer, and tells a caller where the text stands. Assumes nothing.
 use mathlib.Core.Path.{◌≡◌, refl, sym, ap, subst, ◌∙◌}
 use mathlib.Core.List.{List, [], ◌∷◌, ◌++◌, Permᴰ}
-use mathlib.Core.Option.{Option, none, some}
+use Rattle.std.specs.Prelude.{Option, None, Some}
 use Prim.Native.Nat.{ℕ, ◌≤◌}
 use native.Mathlib.Omega.{arith}
 use lib.ListN.{length, take, drop, length-take}
@@ -52,7 +52,7 @@ read_counted s r e h = step (read_table s) (sym (ap (λ (x : TableRead). x.verdi
 
 -- what the planner made of it has the text of the bytes
 module _ (s : List ℕ) (u : Table) (w : WholeRead s u) (counted : length (job_table u).jobs ≡ u.count) where
-  plan_text_lem : (xs : List Chosen) → free most_jobs u.deadline (job_table u).jobs ≡ some xs → draft_text u (draft_of xs) ≡ plan_text (job_table u) xs
+  plan_text_lem : (xs : List Chosen) → free most_jobs u.deadline (job_table u).jobs ≡ Some xs → draft_text u (draft_of xs) ≡ plan_text (job_table u) xs
   unfolding draft_text plan_text
   plan_text_lem xs q =
       let good = w.sound.good in
@@ -69,8 +69,8 @@ module _ (s : List ℕ) (u : Table) (w : WholeRead s u) (counted : length (job_t
   made_text_lem made e = ap (made_text u) e ∙ (step (free most_jobs u.deadline (job_table u).jobs) refl ∙ ap outcome_text (sym w.is))
     where
       step : (o : Option (List Chosen)) → free most_jobs u.deadline (job_table u).jobs ≡ o → made_text u (drafted_of o) ≡ found_text (job_table u) o
-      step none q = refl
-      step (some xs) q = plan_text_lem xs q
+      step None q = refl
+      step (Some xs) q = plan_text_lem xs q
 
 -- the text written at the front is what is promised
 pub lists_text :

@@ -1,14 +1,14 @@
 -- What the lister's code goes by: the job of an id in the table, a plan's steps with their jobs, and the text of what was made.
 -- Assumes nothing.
 use Rattle.std.specs.Prelude.{Bool, cond, List, ◌++◌, map, ℕ}
-use Rattle.std.proofs.Math.Option.{Option, none, some}
+use Rattle.std.specs.Prelude.{Option, None, Some}
 use Rattle.model.specs.declared.Job.{Job}
 use Rattle.model.specs.Timetable.{Chosen, Placed}
 use Rattle.model.specs.FreeOrder.{laid}
 use Rattle.model.specs.Laying.{chosen}
 use Rattle.model.specs.Positions.{no_job}
 use Rattle.table.specs.declared.Table.{Table}
-use Rattle.records.specs.declared.refusal.Refusal.TheVariants.{None}
+use Rattle.records.specs.declared.refusal.Refusal.TheVariants as R
 use Rattle.records.specs.Refusals.{refusal_says}
 use Rattle.table.specs.Tables.{job_table}
 use Rattle.lookup.specs.Lookup.{job_of}
@@ -22,8 +22,8 @@ use Rattle.listing.specs.Listing.{first_line, job_lines, last_line}
 
 -- the job with this id; every step of a plan has one
 abbrev pub or_none : Option Job → Job
-or_none none = no_job
-or_none (some j) = j
+or_none None = no_job
+or_none (Some j) = j
 
 abbrev pub job_with : List Job → ℕ → Job
 job_with js id = or_none (job_of js id)
@@ -47,4 +47,4 @@ unfoldable pub draft_text : Table → Draft → List ℕ
 draft_text t d = first_line t.deadline t.count ++ step_lines t d.plan ++ last_line d.laid.busy d.laid.last
 
 unfoldable pub made_text : Table → Drafted → List ℕ
-made_text t m = cond m.found (draft_text t m.draft) (refused_text (refusal_says None))
+made_text t m = cond m.found (draft_text t m.draft) (refused_text (refusal_says R.None))

@@ -1,11 +1,11 @@
 -- Document 01, 'The lister': the text that is printed for any table bytes, byte by byte, and what the library function does with a lent buffer.
 -- Assumes nothing.
 use Rattle.std.specs.Prelude.{◌≡◌, Bool, cond, List, [], ◌∷◌, ◌++◌, ℕ, ◌≤◌, ◌<◌, length, drop}
-use Rattle.std.proofs.Math.Option.{Option, none, some}
+use Rattle.std.specs.Prelude.{Option, None, Some}
 use Rattle.model.specs.Timetable.{Chosen, Placed, span_end, finish}
 use Rattle.model.specs.FreeOrder.{laid, busy, last_from}
 use Rattle.model.specs.Positions.{free}
-use Rattle.records.specs.declared.refusal.Refusal.TheVariants.{None, Room}
+use Rattle.records.specs.declared.refusal.Refusal.TheVariants as R
 use Rattle.records.specs.Limits.{most_jobs}
 use Rattle.records.specs.Refusals.{refusal_says, Outcome, accepted, refused}
 use Rattle.table.specs.Tables.{JobTable, read_table}
@@ -68,8 +68,8 @@ plan_text t xs = first_line t.deadline (length t.jobs) ++ job_lines (laid 0 xs) 
 
 -- "A program reads a table from standard input and prints the free-order plan"; NONE where the planner finds none
 abbrev pub found_text : JobTable → Option (List Chosen) → List ℕ
-found_text t none = refused_text (refusal_says None)
-found_text t (some xs) = plan_text t xs
+found_text t None = refused_text (refusal_says R.None)
+found_text t (Some xs) = plan_text t xs
 
 abbrev pub outcome_text : Outcome JobTable → List ℕ
 outcome_text (accepted t) = found_text t (free most_jobs t.deadline t.jobs)
@@ -86,11 +86,11 @@ room_for_text = 1024
 -- The answer's number and values: 0 and the text's length, or ROOM's number.
 abbrev pub listed_says : Listed → List ℕ
 listed_says (Text n) = 0 ∷ n ∷ []
-listed_says NoRoom = refusal_says Room
+listed_says NoRoom = refusal_says R.Room
 
 -- the text stands at the front of the buffer and the rest is left; where there is no room for every text, all of it is left
 pub data Lists (s before : List ℕ) (r : Listed) (after : List ℕ) : Type 0 where
-  no_room : length before < room_for_text → listed_says r ≡ refusal_says Room → after ≡ before → Lists s before r after
+  no_room : length before < room_for_text → listed_says r ≡ refusal_says R.Room → after ≡ before → Lists s before r after
   text_written :
       room_for_text ≤ length before → listed_says r ≡ 0 ∷ length (text_of s) ∷ [] → after ≡ text_of s ++ drop (length (text_of s)) before →
       Lists s before r after

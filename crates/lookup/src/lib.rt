@@ -8,13 +8,6 @@ ghost use Rattle.lookup.specs.Lookup.{Indexes};
 
 use table::Table;
 
-// What a search for an id comes to.
-#[derive(Clone, Copy)]
-pub enum Found {
-    At(usize),
-    Nowhere,
-}
-
 // For each id the position of the first job that has it, and `Table::MOST_JOBS` where none has. From the last job to the first, so that the first one stays.
 pub fn index_of(t: Table) -> [u8; 256]
     requires { t.count ≤ most_jobs }

@@ -2,7 +2,7 @@
 -- Assumes nothing.
 use mathlib.Core.Path.{◌≡◌, refl, sym, ap, ◌∙◌}
 use mathlib.Core.List.{List, [], ◌∷◌, ◌++◌}
-use mathlib.Core.Option.{none, some}
+use Rattle.std.specs.Prelude.{None, Some}
 use Prim.Native.Nat.{ℕ, suc, ◌≤◌, ◌<◌}
 use native.Mathlib.Omega.{arith}
 use lib.ListN.{length, drop}
@@ -16,7 +16,7 @@ use Rattle.model.proofs.Best.{best_unique}
 use Rattle.model.proofs.GivenOrder.{given_none_iff, given_best, best_in_order_iff, best_in_order_unique}
 use Rattle.model.proofs.LeastDeadline.{turn_least, least_unique, met_mono}
 use Rattle.model.proofs.Free.{free_best, free_none_iff}
-use Rattle.records.specs.declared.refusal.Refusal.TheVariants.{None}
+use Rattle.records.specs.declared.refusal.Refusal.TheVariants as R
 use Rattle.records.specs.Limits.{most_jobs, largest_time, longest_plan}
 use Rattle.records.specs.Refusals.{accepted}
 use Rattle.table.specs.Tables.{JobTable, read_table}
@@ -41,7 +41,7 @@ module _ (s : List ℕ) (t : JobTable) (e : read_table s ≡ accepted t) where
   same u h = cc
 
   -- a plan that the free-order definition finds is the one that every answer has
-  pub plan_case : (xs : List Chosen) → free most_jobs t.deadline t.jobs ≡ some xs → Claimed s (plan_is (plan_bytes (steps_for xs)) (busy xs) (last_from 0 xs))
+  pub plan_case : (xs : List Chosen) → free most_jobs t.deadline t.jobs ≡ Some xs → Claimed s (plan_is (plan_bytes (steps_for xs)) (busy xs) (last_from 0 xs))
   plan_case xs f before r after room a = step a
     where
       best : BestPlan t.deadline t.jobs xs
@@ -56,10 +56,10 @@ module _ (s : List ℕ) (t : JobTable) (e : read_table s ≡ accepted t) where
           let y : ys ≡ xs = p'.2 ∙ (ap plan (best_unique t.deadline t.jobs p'.0 best.0 p'.1 best.1) ∙ sym best.2) in
           (rw y at h.says, rw y at h.front)
 
-  pub none_case : free most_jobs t.deadline t.jobs ≡ none → Claimed s no_plan
+  pub none_case : free most_jobs t.deadline t.jobs ≡ None → Claimed s no_plan
   none_case f before r after room a = step a
     where
-      step : FreeAnswer s before r after → A.Refuses None before r after
+      step : FreeAnswer s before r after → A.Refuses R.None before r after
       step (A.no_room l h) = absurd (omega arith)
       step (A.bad_table l g q h) = clash (cc)
       step (A.no_plan l u q n h) = h
@@ -68,10 +68,10 @@ module _ (s : List ℕ) (t : JobTable) (e : read_table s ≡ accepted t) where
           let meets = (timetable_iff_workable t.deadline t.jobs).1 (p'.0, p'.1.choice, p'.1.workable) in
           absurd ((free_none_iff most_jobs t.jobs few t.deadline).0 f meets)
 
-  pub given_case : given t.deadline 0 t.jobs ≡ none → Claimed s no_given
+  pub given_case : given t.deadline 0 t.jobs ≡ None → Claimed s no_given
   given_case f before r after room a = step a
     where
-      step : GivenAnswer s before r after → A.Refuses None before r after
+      step : GivenAnswer s before r after → A.Refuses R.None before r after
       step (A.no_room l h) = absurd (omega arith)
       step (A.bad_table l g q h) = clash (cc)
       step (A.no_plan l u q n h) = h
@@ -79,7 +79,7 @@ module _ (s : List ℕ) (t : JobTable) (e : read_table s ≡ accepted t) where
           absurd ((given_none_iff t.deadline t.jobs).0 f ((best_in_order_iff t.deadline t.jobs).0 (ys, rw (same u q) at p)))
 
   -- a plan that Algorithm 1 finds is the one that every answer in the given order has
-  pub given_plan_case : (xs : List Chosen) → given t.deadline 0 t.jobs ≡ some xs
+  pub given_plan_case : (xs : List Chosen) → given t.deadline 0 t.jobs ≡ Some xs
       → (before : List ℕ) (r : Planned) (after : List ℕ) → longest_plan ≤ length before → GivenAnswer s before r after
       → Written xs before r after
   given_plan_case xs f before r after room a = step a
@@ -97,7 +97,7 @@ module _ (s : List ℕ) (t : JobTable) (e : read_table s ≡ accepted t) where
 
   -- met at d + 1, and not at d unless d is 0
   pub least_case :
-      (d : ℕ) → d < largest_time → (xs : List Chosen) → free most_jobs (suc d) t.jobs ≡ some xs → (1 ≤ d → free most_jobs d t.jobs ≡ none) →
+      (d : ℕ) → d < largest_time → (xs : List Chosen) → free most_jobs (suc d) t.jobs ≡ Some xs → (1 ≤ d → free most_jobs d t.jobs ≡ None) →
       Claimed s (least_is (suc d))
   least_case d l xs f g r a = step a
     where

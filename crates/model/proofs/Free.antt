@@ -4,7 +4,7 @@ use mathlib.Core.Path.{◌≡◌, refl, sym, ap, subst, ◌∙◌}
 use mathlib.Core.Logic.{◌↔◌}
 use mathlib.Core.Bool.{Bool, true, false, false≢true}
 use mathlib.Core.List.{List, [], ◌∷◌, reverse}
-use mathlib.Core.Option.{none, some}
+use Rattle.std.specs.Prelude.{None, Some}
 use Prim.Native.Nat.{ℕ, zero, suc, ◌^◌, ◌≤◌, ◌<◌}
 use native.Mathlib.Omega.{arith}
 use native.Mathlib.Decide.{ℕ_discrete, dec_lt}
@@ -82,17 +82,17 @@ module _ (room : ℕ) (js : List Job) (fits : length js ≤ room) where
         (b, ap busy (best_unique D js (choice_of room js m) r.0 b r.1) ∙ r.2)
 
     -- what is found is the plan of the best choice
-    pub free_best : (xs : List Chosen) → free room D js ≡ some xs → (cs : List Chosen) × Best D js cs × (xs ≡ plan cs)
+    pub free_best : (xs : List Chosen) → free room D js ≡ Some xs → (cs : List Chosen) × Best D js cs × (xs ≡ plan cs)
     free_best xs e = step (answer D js) refl e
       where
-        step : (c : Cell) → answer D js ≡ c → plan_found room js c ≡ some xs → (cs : List Chosen) × Best D js cs × (xs ≡ plan cs)
+        step : (c : Cell) → answer D js ≡ c → plan_found room js c ≡ Some xs → (cs : List Chosen) × Best D js cs × (xs ≡ plan cs)
         step empty q f = clash (cc)
         step (cell a m) q f = (choice_of room js m, (answer_choice a m q).0, (cc))
 
     -- and none is found exactly when no timetable meets D
-    pub free_none_iff : (free room D js ≡ none) ↔ ¬ (Met D js)
+    pub free_none_iff : (free room D js ≡ None) ↔ ¬ (Met D js)
     free_none_iff = (λ e. (none_iff_no_timetable D js).0 (back (answer D js) refl e), λ n. ap (plan_found room js) ((none_iff_no_timetable D js).1 n))
       where
-        back : (c : Cell) → answer D js ≡ c → plan_found room js c ≡ none → answer D js ≡ empty
+        back : (c : Cell) → answer D js ≡ c → plan_found room js c ≡ None → answer D js ≡ empty
         back empty q f = q
         back (cell a m) q f = clash (cc)

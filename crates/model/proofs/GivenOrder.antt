@@ -4,7 +4,7 @@ use mathlib.Core.Path.{◌≡◌, refl, sym, ap, subst, ◌∙◌}
 use mathlib.Core.Logic.{◌↔◌}
 use mathlib.Core.Bool.{Bool, true, false, cond, not, ◌&&◌, ◌||◌}
 use mathlib.Core.List.{List, [], ◌∷◌, map}
-use mathlib.Core.Option.{Option, none, some}
+use Rattle.std.specs.Prelude.{Option, None, Some}
 use Prim.Native.Nat.{ℕ, ◌+◌, ◌≤◌, ◌<◌}
 use native.Mathlib.Omega.{arith}
 use borrow.Author.Tests.{leb-true, leb-false, le-leb, ltb-true, ltb-false}
@@ -56,21 +56,21 @@ module _ (D t : ℕ) (j : Job) where
   abbrev kept : Chosen
   kept = record { job = j; away = false }
 
-  decide_sent : goes D t j ≡ true → decide D t j ≡ some sent
-  decide_sent e = ap (λ (b : Bool). cond b (some sent) (cond (leb (t + C) D) (some kept) none)) e
+  decide_sent : goes D t j ≡ true → decide D t j ≡ Some sent
+  decide_sent e = ap (λ (b : Bool). cond b (Some sent) (cond (leb (t + C) D) (Some kept) None)) e
 
-  decide_kept : goes D t j ≡ false → t + C ≤ D → decide D t j ≡ some kept
+  decide_kept : goes D t j ≡ false → t + C ≤ D → decide D t j ≡ Some kept
   decide_kept e h =
-      ap (λ (b : Bool). cond b (some sent) (cond (leb (t + C) D) (some kept) none)) e ∙ ap (λ (b : Bool). cond b (some kept) none) (le-leb (t + C) D h)
+      ap (λ (b : Bool). cond b (Some sent) (cond (leb (t + C) D) (Some kept) None)) e ∙ ap (λ (b : Bool). cond b (Some kept) None) (le-leb (t + C) D h)
 
   -- what is decided finishes by D
-  pub decide_fits : (c : Chosen) → decide D t j ≡ some c → (c.job ≡ j) × Allowed c × (t + span c + wait c ≤ D)
+  pub decide_fits : (c : Chosen) → decide D t j ≡ Some c → (c.job ≡ j) × Allowed c × (t + span c + wait c ≤ D)
   decide_fits c e = step (goes D t j) (leb (t + C) D) refl refl e
     where
-      as_is : (x : Chosen) → (x.job ≡ j) × Allowed x × (t + span x + wait x ≤ D) → some x ≡ some c → (c.job ≡ j) × Allowed c × (t + span c + wait c ≤ D)
+      as_is : (x : Chosen) → (x.job ≡ j) × Allowed x × (t + span x + wait x ≤ D) → Some x ≡ Some c → (c.job ≡ j) × Allowed c × (t + span c + wait c ≤ D)
       as_is x h q = let p : x ≡ c = cc in subst (λ (y : Chosen). (y.job ≡ j) × Allowed y × (t + span y + wait y ≤ D)) p h
 
-      step : (a b : Bool) → goes D t j ≡ a → leb (t + C) D ≡ b → cond a (some sent) (cond b (some kept) none) ≡ some c
+      step : (a b : Bool) → goes D t j ≡ a → leb (t + C) D ≡ b → cond a (Some sent) (cond b (Some kept) None) ≡ Some c
           → (c.job ≡ j) × Allowed c × (t + span c + wait c ≤ D)
       step true b p q e = let g = goes_yes p in as_is sent (refl, subst (λ (b : Bool). T (b || false)) (sym g.0) tt, g.2) e
       step false true p q e = as_is kept (refl, allow (is_either j), omega (arith, leb-true (t + C) D q)) e
@@ -83,7 +83,7 @@ module _ (D t : ℕ) (j : Job) where
 -- the decision against any other choice d of the job that is on time from a later u
 pub record Beats (D t : ℕ) (d : Chosen) : Type 0 where
   pub one : Chosen
-  pub decided : decide D t d.job ≡ some one
+  pub decided : decide D t d.job ≡ Some one
   pub less : span one ≤ span d
   pub tie : span one ≡ span d → T one.away → T d.away
 
@@ -115,13 +115,13 @@ beats D t u d h a f = step (goes D t d.job) d.away refl refl a f
 
 -- The whole run.
 
-pub given_on : (D t : ℕ) (j : Job) (js : List Job) (c : Chosen) → decide D t j ≡ some c → given D t (j ∷ js) ≡ put c (given D (t + span c) js)
+pub given_on : (D t : ℕ) (j : Job) (js : List Job) (c : Chosen) → decide D t j ≡ Some c → given D t (j ∷ js) ≡ put c (given D (t + span c) js)
 given_on D t j js c e =
-    ap (λ (o : Option Chosen). elim o as (λ (x : Option Chosen). Option (List Chosen)) [ none ↦ none | some x ↦ put x (given D (t + span x) js) ]) e
+    ap (λ (o : Option Chosen). elim o as (λ (x : Option Chosen). Option (List Chosen)) [ None ↦ None | Some x ↦ put x (given D (t + span x) js) ]) e
 
 pub record Greedy (D t : ℕ) (ds : List Chosen) : Type 0 where
   pub cs : List Chosen
-  pub is : given D t (jobs ds) ≡ some cs
+  pub is : given D t (jobs ds) ≡ Some cs
   pub less : busy cs ≤ busy ds
   pub tie : busy cs ≡ busy ds → KeepsAll cs ds
 
@@ -139,16 +139,16 @@ greedy D t u (d ∷ ds) h a f =
     }
 
 -- what it finds is a choice of the table, on time back to back from t
-given_sound : (D t : ℕ) (js : List Job) (cs : List Chosen) → given D t js ≡ some cs → Choice js cs × Fits D t cs
+given_sound : (D t : ℕ) (js : List Job) (cs : List Chosen) → given D t js ≡ Some cs → Choice js cs × Fits D t cs
 given_sound D t [] cs e =
     let q : [] ≡ cs = cc in
     subst (λ (l : List Chosen). Choice [] l × Fits D t l) q (record { each = refl; allowed = tt }, tt)
 given_sound D t (j ∷ js) cs e = first (decide D t j) refl e (λ u ds f. given_sound D u js ds f)
   where
-    second : (c : Chosen) → decide D t j ≡ some c → (o : Option (List Chosen)) → given D (t + span c) js ≡ o → put c o ≡ some cs
-        → ((u : ℕ) (ds : List Chosen) → given D u js ≡ some ds → Choice js ds × Fits D u ds) → Choice (j ∷ js) cs × Fits D t cs
-    second c p none g e ih = clash (cc)
-    second c p (some ds) g e ih =
+    second : (c : Chosen) → decide D t j ≡ Some c → (o : Option (List Chosen)) → given D (t + span c) js ≡ o → put c o ≡ Some cs
+        → ((u : ℕ) (ds : List Chosen) → given D u js ≡ Some ds → Choice js ds × Fits D u ds) → Choice (j ∷ js) cs × Fits D t cs
+    second c p None g e ih = clash (cc)
+    second c p (Some ds) g e ih =
         let q : c ∷ ds ≡ cs = cc in
         let r = ih (t + span c) ds g in
         let s = decide_fits D t j c p in
@@ -157,10 +157,10 @@ given_sound D t (j ∷ js) cs e = first (decide D t j) refl e (λ u ds f. given_
         subst (λ (l : List Chosen). Choice (j ∷ js) l × Fits D t l) q (record { each = (cc); allowed = (s.1, r.0.allowed) }, (s.2, r.1))
 
     first : (o : Option Chosen) → decide D t j ≡ o
-        → (elim o as (λ (x : Option Chosen). Option (List Chosen)) [ none ↦ none | some x ↦ put x (given D (t + span x) js) ]) ≡ some cs
-        → ((u : ℕ) (ds : List Chosen) → given D u js ≡ some ds → Choice js ds × Fits D u ds) → Choice (j ∷ js) cs × Fits D t cs
-    first none p e ih = clash (cc)
-    first (some c) p e ih = second c p (given D (t + span c) js) refl e ih
+        → (elim o as (λ (x : Option Chosen). Option (List Chosen)) [ None ↦ None | Some x ↦ put x (given D (t + span x) js) ]) ≡ Some cs
+        → ((u : ℕ) (ds : List Chosen) → given D u js ≡ Some ds → Choice js ds × Fits D u ds) → Choice (j ∷ js) cs × Fits D t cs
+    first None p e ih = clash (cc)
+    first (Some c) p e ih = second c p (given D (t + span c) js) refl e ih
 
 -- Timetables in table order are choices that fit back to back.
 
@@ -214,31 +214,31 @@ module _ (D : ℕ) (js : List Job) where
 
   -- the algorithm against any choice that is on time back to back
   against : (ds : List Chosen) → Choice js ds → Fits D 0 ds
-      → (cs : List Chosen) × (given D 0 js ≡ some cs) × (busy cs ≤ busy ds) × (busy cs ≡ busy ds → KeepsAll cs ds)
+      → (cs : List Chosen) × (given D 0 js ≡ Some cs) × (busy cs ≤ busy ds) × (busy cs ≡ busy ds → KeepsAll cs ds)
   against ds c f =
       let r = greedy D 0 0 ds (omega arith) c.allowed f in
-      (r.cs, subst (λ (l : List Job). given D 0 l ≡ some r.cs) c.each r.is, r.less, r.tie)
+      (r.cs, subst (λ (l : List Job). given D 0 l ≡ Some r.cs) c.each r.is, r.less, r.tie)
 
   -- NONE exactly when no timetable in table order meets D
-  pub given_none_iff : (given D 0 js ≡ none) ↔ ¬ (MetInOrder D js)
+  pub given_none_iff : (given D 0 js ≡ None) ↔ ¬ (MetInOrder D js)
   given_none_iff = (no_plan, λ f. other (given D 0 js) refl f)
     where
-      no_plan : given D 0 js ≡ none → ¬ (MetInOrder D js)
+      no_plan : given D 0 js ≡ None → ¬ (MetInOrder D js)
       no_plan e m =
           let c = inorder_choice m.0 m.1 m.2 in
           let r = against (map what m.0) c.0 c.1 in
           let q = r.1 in
           clash (cc)
 
-      other : (o : Option (List Chosen)) → given D 0 js ≡ o → ¬ (MetInOrder D js) → given D 0 js ≡ none
-      other none e f = e
-      other (some cs) e f =
+      other : (o : Option (List Chosen)) → given D 0 js ≡ o → ¬ (MetInOrder D js) → given D 0 js ≡ None
+      other None e f = e
+      other (Some cs) e f =
           let s = given_sound D 0 js cs e in
           let t = choice_inorder cs s.0 s.1 in
           absurd (f (laid 0 cs, t.0, t.1))
 
   -- what it finds is the best choice in table order
-  pub given_best : (cs : List Chosen) → given D 0 js ≡ some cs → BestInOrder D js cs
+  pub given_best : (cs : List Chosen) → given D 0 js ≡ Some cs → BestInOrder D js cs
   given_best cs e =
       let s = given_sound D 0 js cs e in
       record { choice = s.0; fits = s.1; less = λ ds c f. (beaten ds c f).0; tie = λ ds c f. (beaten ds c f).1 }
@@ -266,10 +266,10 @@ module _ (D : ℕ) (js : List Job) where
       keeps_all_antisym cs ds (b.choice.each ∙ sym d.choice.each) (b.tie ds d.choice d.fits e) (d.tie cs b.choice b.fits (sym e))
 
   -- it is Algorithm 1's plan
-  pub best_is_given : (cs : List Chosen) → BestInOrder D js cs → given D 0 js ≡ some cs
+  pub best_is_given : (cs : List Chosen) → BestInOrder D js cs → given D 0 js ≡ Some cs
   best_is_given cs b =
       let r = against cs b.choice b.fits in
-      r.1 ∙ ap some (best_in_order_unique r.0 cs (given_best r.0 r.1) b)
+      r.1 ∙ ap Some (best_in_order_unique r.0 cs (given_best r.0 r.1) b)
 
   -- no timetable in table order that meets D has a smaller sum of spans
   pub best_in_order_least : (cs : List Chosen) → BestInOrder D js cs → (ps : List Placed) → InOrder js ps → Meets D ps → busy cs ≤ spans ps

@@ -1,7 +1,7 @@
 -- Document 01, 'The given-order plan': the jobs keep table order.
 -- Assumes nothing.
 use Rattle.std.specs.Prelude.{◌≡◌, Bool, true, false, cond, ◌&&◌, List, [], ◌∷◌, map, ℕ, ◌+◌, ◌≤◌, T, leb, ltb}
-use Rattle.std.proofs.Math.Option.{Option, none, some}
+use Rattle.std.specs.Prelude.{Option, None, Some}
 use Rattle.model.specs.declared.Job.{Job}
 use Rattle.model.specs.Lists.{All, Pairwise}
 use Rattle.model.specs.Timetable.{is_either, setup_time, return_time, Chosen, Allowed, Placed, span, span_end, Meets}
@@ -26,16 +26,16 @@ goes D t j = is_either j && (ltb (setup_time j) j.local && leb (t + setup_time j
 -- "else kept here if t + C <= D; else NONE"
 
 abbrev pub decide : ℕ → ℕ → Job → Option Chosen
-decide D t j = cond (goes D t j) (some (record { job = j; away = true })) (cond (leb (t + j.local) D) (some (record { job = j; away = false })) none)
+decide D t j = cond (goes D t j) (Some (record { job = j; away = true })) (cond (leb (t + j.local) D) (Some (record { job = j; away = false })) None)
 
 abbrev pub put : Chosen → Option (List Chosen) → Option (List Chosen)
-put c none = none
-put c (some cs) = some (c ∷ cs)
+put c None = None
+put c (Some cs) = Some (c ∷ cs)
 
 -- the jobs from time t on, one after the other
 abbrev pub given : ℕ → ℕ → List Job → Option (List Chosen)
-given D t [] = some []
-given D t (j ∷ js) = elim (decide D t j) [ none ↦ none | some c ↦ put c (given D (t + span c) js) ]
+given D t [] = Some []
+given D t (j ∷ js) = elim (decide D t j) [ None ↦ None | Some c ↦ put c (given D (t + span c) js) ]
 
 -- What the plan so found is: of the choices that meet D back to back in table order, the one with the least busy total; of several, the one whose
 -- away jobs the others all send away too.

@@ -3,7 +3,7 @@
 use mathlib.Core.Path.{◌≡◌, refl, sym, ap, ◌∙◌}
 use mathlib.Core.Bool.{true, false}
 use mathlib.Core.List.{List, ◌++◌}
-use mathlib.Core.Option.{Option, none, some}
+use Rattle.std.specs.Prelude.{Option, None, Some}
 use Prim.Native.Nat.{ℕ, ◌≤◌}
 use native.Mathlib.Omega.{arith}
 use lib.ListN.{length, drop}
@@ -14,7 +14,7 @@ use Rattle.table.specs.declared.TableVerdict.{TableVerdict}
 use Rattle.table.specs.declared.TableVerdict.TheVariants.{Whole, Refused}
 use Rattle.table.specs.declared.TableRead.{TableRead}
 use Rattle.records.specs.declared.refusal.Refusal.{Refusal}
-use Rattle.records.specs.declared.refusal.Refusal.TheVariants.{None}
+use Rattle.records.specs.declared.refusal.Refusal.TheVariants as R
 use Rattle.records.specs.Limits.{most_jobs, longest_plan}
 use Rattle.records.specs.Refusals.{accepted, refused}
 use Rattle.table.specs.Tables.{JobTable, job_table, Sound, read_table, table_read}
@@ -48,12 +48,12 @@ module _ (s : List ℕ) (x : TableRead) (e : x ≡ table_read (read_table s)) wh
   sound_read h = (read_whole s x e h).sound
 
 module _ (made : Drafted) (t : JobTable) (o : Option (List Chosen)) (e : made ≡ drafted_of o) (before : List ℕ) where
-  pub finish_none : made.found ≡ false → Finishes t o before (NotPlanned None) before
+  pub finish_none : made.found ≡ false → Finishes t o before (NotPlanned R.None) before
   finish_none h = step o (sym (ap (λ (m : Drafted). m.found) e) ∙ h)
     where
-      step : (p : Option (List Chosen)) → (drafted_of p).found ≡ false → Finishes t p before (NotPlanned None) before
-      step none k = record { says = refl; left = refl }
-      step (some xs) k = clash (cc)
+      step : (p : Option (List Chosen)) → (drafted_of p).found ≡ false → Finishes t p before (NotPlanned R.None) before
+      step None k = record { says = refl; left = refl }
+      step (Some xs) k = clash (cc)
 
   abbrev bytes : List ℕ
   bytes = plan_bytes (steps_of made.draft.plan)
@@ -66,8 +66,8 @@ module _ (made : Drafted) (t : JobTable) (o : Option (List Chosen)) (e : made �
   finish_some after n h w = step o e (sym (ap (λ (m : Drafted). m.found) e) ∙ h)
     where
       step : (p : Option (List Chosen)) → made ≡ drafted_of p → (drafted_of p).found ≡ true → Finishes t p before (written n) after
-      step none q k = clash (cc)
-      step (some xs) q k =
+      step None q k = clash (cc)
+      step (Some xs) q k =
           let s : steps_of made.draft.plan ≡ steps_for xs = ap (λ (m : Drafted). steps_of m.draft.plan) q ∙ steps_of_plan (steps_for xs) in
           record {
             says = rw (w.0, s, q) refl;
@@ -78,8 +78,8 @@ module _
     (CanMeet : JobTable → Type 0)
     (IsPlan : JobTable → List Chosen → Type 0)
     (find : JobTable → Option (List Chosen))
-    (finds : (t : JobTable) → length t.jobs ≤ most_jobs → (xs : List Chosen) → find t ≡ some xs → IsPlan t xs)
-    (misses : (t : JobTable) → length t.jobs ≤ most_jobs → find t ≡ none → ¬ (CanMeet t))
+    (finds : (t : JobTable) → length t.jobs ≤ most_jobs → (xs : List Chosen) → find t ≡ Some xs → IsPlan t xs)
+    (misses : (t : JobTable) → length t.jobs ≤ most_jobs → find t ≡ None → ¬ (CanMeet t))
     (as_many : (t : JobTable) (xs : List Chosen) → IsPlan t xs → length xs ≡ length t.jobs)
   where
     -- what is found fits a plan
@@ -87,8 +87,8 @@ module _
     found_few u sound made e = rw e (step (find (job_table u)) refl)
       where
         step : (o : Option (List Chosen)) → find (job_table u) ≡ o → (drafted_of o).draft.plan.count ≤ most_jobs
-        step none q = omega arith
-        step (some xs) q =
+        step None q = omega arith
+        step (Some xs) q =
             let few = sound.good.few in
             omega (arith, steps_length xs, as_many (job_table u) xs (finds (job_table u) few xs q))
 
@@ -107,5 +107,5 @@ module _
         few = (sound whole).good.few
 
         step : (o : Option (List Chosen)) → find t ≡ o → Finishes t o before r after → PlanAnswer CanMeet IsPlan (was_read x) before r after
-        step none q k = no_plan h t (whole_read x whole) (misses t few q) k
-        step (some xs) q k = planned h t (whole_read x whole) xs (finds t few xs q) k
+        step None q k = no_plan h t (whole_read x whole) (misses t few q) k
+        step (Some xs) q k = planned h t (whole_read x whole) xs (finds t few xs q) k

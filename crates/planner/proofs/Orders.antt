@@ -2,7 +2,7 @@
 -- Assumes nothing.
 use mathlib.Core.Path.{◌≡◌, sym, ap, ◌∙◌}
 use mathlib.Core.List.{List}
-use mathlib.Core.Option.{Option, none, some}
+use Rattle.std.specs.Prelude.{Option, None, Some}
 use Prim.Native.Nat.{ℕ, ◌≤◌}
 use lib.ListN.{length, length-map}
 use Rattle.model.specs.declared.Job.{Job}
@@ -32,10 +32,10 @@ choice_many js cs c = sym (length-map cs (λ (x : Chosen). x.job)) ∙ ap length
 abbrev pub free_of : JobTable → Option (List Chosen)
 free_of t = free most_jobs t.deadline t.jobs
 
-free_finds : (t : JobTable) → length t.jobs ≤ most_jobs → (xs : List Chosen) → free_of t ≡ some xs → FreePlan t xs
+free_finds : (t : JobTable) → length t.jobs ≤ most_jobs → (xs : List Chosen) → free_of t ≡ Some xs → FreePlan t xs
 free_finds t few xs e = free_best most_jobs t.jobs few t.deadline xs e
 
-free_misses : (t : JobTable) → length t.jobs ≤ most_jobs → free_of t ≡ none → ¬ (Possible Timetable t)
+free_misses : (t : JobTable) → length t.jobs ≤ most_jobs → free_of t ≡ None → ¬ (Possible Timetable t)
 free_misses t few e = (free_none_iff most_jobs t.jobs few t.deadline).0 e
 
 pub free_many : (t : JobTable) (xs : List Chosen) → FreePlan t xs → length xs ≡ length t.jobs
@@ -54,10 +54,10 @@ free_answered = answered (Possible Timetable) FreePlan free_of free_finds free_m
 abbrev pub given_of : JobTable → Option (List Chosen)
 given_of t = given t.deadline 0 t.jobs
 
-given_finds : (t : JobTable) → length t.jobs ≤ most_jobs → (xs : List Chosen) → given_of t ≡ some xs → GivenPlan t xs
+given_finds : (t : JobTable) → length t.jobs ≤ most_jobs → (xs : List Chosen) → given_of t ≡ Some xs → GivenPlan t xs
 given_finds t few xs e = given_best t.deadline t.jobs xs e
 
-given_misses : (t : JobTable) → length t.jobs ≤ most_jobs → given_of t ≡ none → ¬ (Possible InOrder t)
+given_misses : (t : JobTable) → length t.jobs ≤ most_jobs → given_of t ≡ None → ¬ (Possible InOrder t)
 given_misses t few e = (given_none_iff t.deadline t.jobs).0 e
 
 pub given_many : (t : JobTable) (xs : List Chosen) → GivenPlan t xs → length xs ≡ length t.jobs

@@ -1,13 +1,13 @@
 -- Document 01, 'The free-order plan', 'The given-order plan', 'Least deadline' and 'Refusal numbers': what the three planners answer,
 -- by number and values, and what they leave in the area, told of what was read of the table's bytes. Assumes nothing.
 use Rattle.std.specs.Prelude.{◌≡◌, List, [], ◌∷◌, ◌++◌, ℕ, ◌≤◌, ◌<◌, length, drop}
-use Rattle.std.proofs.Math.Option.{Option, none, some}
+use Rattle.std.specs.Prelude.{Option, None, Some}
 use Rattle.model.specs.declared.Job.{Job}
 use Rattle.model.specs.Timetable.{Chosen, Placed, chosen_in, Timetable, Meets, Met}
 use Rattle.model.specs.FreeOrder.{plan, last_from, Best, LeastDeadline}
 use Rattle.model.specs.GivenOrder.{InOrder, BestInOrder}
 use Rattle.records.specs.declared.refusal.Refusal.{Refusal}
-use Rattle.records.specs.declared.refusal.Refusal.TheVariants.{None, Room}
+use Rattle.records.specs.declared.refusal.Refusal.TheVariants as R
 use Rattle.table.specs.declared.TableVerdict.TheVariants.{Whole, Refused}
 use Rattle.table.specs.declared.TableRead.{TableRead}
 use Rattle.records.specs.Limits.{largest_time, longest_plan}
@@ -43,10 +43,10 @@ pub record Writes (t : JobTable) (xs : List Chosen) (before : List ℕ) (r : Pla
 -- `CanMeet t` says that some timetable of its kind is on time, `IsPlan t xs` that xs is the plan that it has to write.
 module _ (CanMeet : JobTable → Type 0) (IsPlan : JobTable → List Chosen → Type 0) where
   pub data PlanAnswer (read : Outcome JobTable) (before : List ℕ) (r : Planned) (after : List ℕ) : Type 0 where
-    no_room : length before < longest_plan → Refuses Room before r after → PlanAnswer read before r after
+    no_room : length before < longest_plan → Refuses R.Room before r after → PlanAnswer read before r after
     bad_table : longest_plan ≤ length before → (f : Refusal) → read ≡ refused f → Refuses f before r after → PlanAnswer read before r after
     no_plan :
-        longest_plan ≤ length before → (t : JobTable) → read ≡ accepted t → ¬ (CanMeet t) → Refuses None before r after →
+        longest_plan ≤ length before → (t : JobTable) → read ≡ accepted t → ¬ (CanMeet t) → Refuses R.None before r after →
         PlanAnswer read before r after
     planned :
         longest_plan ≤ length before → (t : JobTable) → read ≡ accepted t →
@@ -83,7 +83,7 @@ GivenAnswer s = GivenRead (read_table s)
 -- "Least deadline: the smallest D in 1..4,000 that some timetable meets, the table's own D being ignored; NONE if 4,000 is not met."
 pub data LeastRead (read : Outcome JobTable) (r : Least) : Type 0 where
   bad_table : (f : Refusal) → read ≡ refused f → least_says r ≡ refusal_says f → LeastRead read r
-  never_met : (t : JobTable) → read ≡ accepted t → ¬ (Met largest_time t.jobs) → least_says r ≡ refusal_says None → LeastRead read r
+  never_met : (t : JobTable) → read ≡ accepted t → ¬ (Met largest_time t.jobs) → least_says r ≡ refusal_says R.None → LeastRead read r
   met_from :
       (t : JobTable) → read ≡ accepted t → (d : ℕ) → LeastDeadline largest_time t.jobs d → least_says r ≡ 0 ∷ d ∷ [] → LeastRead read r
 
@@ -100,5 +100,5 @@ SoundRead x = x.verdict ≡ Whole → Sound x.table
 
 -- what a planner makes of what it found for a table: NONE, or the plan written
 abbrev pub Finishes : JobTable → Option (List Chosen) → List ℕ → Planned → List ℕ → Type 0
-Finishes t none before r after = Refuses None before r after
-Finishes t (some xs) before r after = Writes t xs before r after
+Finishes t None before r after = Refuses R.None before r after
+Finishes t (Some xs) before r after = Writes t xs before r after

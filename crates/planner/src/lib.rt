@@ -2,8 +2,7 @@
 // Any table and any area get an answer by number; a plan is written at the front of the area, and a refusal leaves all of it.
 #![tactic(auto)]
 
-ghost use Rattle.std.specs.Prelude.{◌≡◌, List, ◌≤◌, length};
-ghost use Rattle.std.proofs.Math.Option.{Option};
+ghost use Rattle.std.specs.Prelude.{◌≡◌, List, ◌≤◌, length, Option};
 ghost use Rattle.model.specs.Timetable.{Chosen};
 ghost use Rattle.records.specs.Limits.{longest_plan, most_jobs};
 ghost use Rattle.table.specs.Tables.{JobTable};

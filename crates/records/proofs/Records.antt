@@ -4,7 +4,7 @@ use Prim.Native.Nat.{ℕ, ◌+◌, ◌-◌, ◌≤◌, ◌<◌}
 use mathlib.Core.Path.{◌≡◌, refl, sym, subst}
 use mathlib.Core.Bool.{cond}
 use mathlib.Core.List.{List}
-use mathlib.Core.Option.{Option, none, some}
+use Rattle.std.specs.Prelude.{Option, None, Some}
 use lib.ListN.{length, get_or}
 use lib.Dec.{ltb, leb, eqb}
 use borrow.Author.Tests.{ltb-true, leb-true, eqb-true, lt-ltb, le-ltb, le-leb, lt-leb}
@@ -93,37 +93,37 @@ step_kind b k =
     (λ e. (cc, cc)) (λ j e. (cc, cc)) (λ j e. (cc, cc)) (λ n e. (cc, cc)) b
 
 -- what may stand at a place, and what may not
-pub is_frame : (m : Meaning) (u : Unit {0}) → frame_only m ≡ some u → m ≡ Frame
+pub is_frame : (m : Meaning) (u : Unit {0}) → frame_only m ≡ Some u → m ≡ Frame
 is_frame Frame u e = refl
 is_frame (Row k) u e = cc
 is_frame (Step k) u e = cc
 is_frame Unknown u e = cc
 
-pub is_row : (m : Meaning) (k : RowKind) → row_only m ≡ some k → m ≡ Row k
+pub is_row : (m : Meaning) (k : RowKind) → row_only m ≡ Some k → m ≡ Row k
 is_row Frame k e = cc
 is_row (Row j) k e = cc
 is_row (Step j) k e = cc
 is_row Unknown k e = cc
 
-pub is_step : (m : Meaning) (k : StepKind) → step_only m ≡ some k → m ≡ Step k
+pub is_step : (m : Meaning) (k : StepKind) → step_only m ≡ Some k → m ≡ Step k
 is_step Frame k e = cc
 is_step (Row j) k e = cc
 is_step (Step j) k e = cc
 is_step Unknown k e = cc
 
-pub not_frame : (m : Meaning) → (m ≡ Frame → ⊥) → frame_only m ≡ none
+pub not_frame : (m : Meaning) → (m ≡ Frame → ⊥) → frame_only m ≡ None
 not_frame Frame differs = absurd (differs refl)
 not_frame (Row k) differs = refl
 not_frame (Step k) differs = refl
 not_frame Unknown differs = refl
 
-pub not_row : (m : Meaning) → ((k : RowKind) → m ≡ Row k → ⊥) → row_only m ≡ none
+pub not_row : (m : Meaning) → ((k : RowKind) → m ≡ Row k → ⊥) → row_only m ≡ None
 not_row Frame differs = refl
 not_row (Row k) differs = absurd (differs k refl)
 not_row (Step k) differs = refl
 not_row Unknown differs = refl
 
-pub not_step : (m : Meaning) → ((k : StepKind) → m ≡ Step k → ⊥) → step_only m ≡ none
+pub not_step : (m : Meaning) → ((k : StepKind) → m ≡ Step k → ⊥) → step_only m ≡ None
 not_step Frame differs = refl
 not_step (Row k) differs = refl
 not_step (Step k) differs = absurd (differs k refl)
@@ -136,18 +136,18 @@ module _ {K R : Type 0} (refuse : Refusal → R) (read : Place → K → R) (may
   no_byte h = simp (le-ltb _ _ h)
 
   pub not_allowed :
-      {f : Form} → f ≡ form_of (get_or s p.at 0) → p.at < length s → may f.meaning ≡ none → judged refuse read may s p ≡ refuse (Kind p)
+      {f : Form} → f ≡ form_of (get_or s p.at 0) → p.at < length s → may f.meaning ≡ None → judged refuse read may s p ≡ refuse (Kind p)
   unfolding judged
   not_allowed told there e = simp (lt-ltb _ _ there, ← told, e)
 
   pub cut :
-      {f : Form} → f ≡ form_of (get_or s p.at 0) → p.at < length s → (k : K) → may f.meaning ≡ some k →
+      {f : Form} → f ≡ form_of (get_or s p.at 0) → p.at < length s → (k : K) → may f.meaning ≡ Some k →
       length s - (p.at + 1) < f.body → judged refuse read may s p ≡ refuse (Short p)
   unfolding judged
   cut told there k e h = simp (lt-ltb _ _ there, ← told, e, lt-leb _ _ h)
 
   pub opened :
-      {f : Form} → f ≡ form_of (get_or s p.at 0) → p.at < length s → (k : K) → may f.meaning ≡ some k →
+      {f : Form} → f ≡ form_of (get_or s p.at 0) → p.at < length s → (k : K) → may f.meaning ≡ Some k →
       f.body ≤ length s - (p.at + 1) → judged refuse read may s p ≡ read (past p f.body) k
   unfolding judged
   opened told there k e h = simp (lt-ltb _ _ there, ← told, e, le-leb _ _ h)
@@ -155,7 +155,7 @@ module _ {K R : Type 0} (refuse : Refusal → R) (read : Place → K → R) (may
   -- And back: what holds of every refusal, and of what each open record reads, holds of what is judged.
   pub judged_all :
       (P : R → Type 0) → ((f : Refusal) → P (refuse f)) →
-      ((k : K) → p.at < length s → may (form_of (get_or s p.at 0)).meaning ≡ some k → (form_of (get_or s p.at 0)).body ≤ length s - (p.at + 1) →
+      ((k : K) → p.at < length s → may (form_of (get_or s p.at 0)).meaning ≡ Some k → (form_of (get_or s p.at 0)).body ≤ length s - (p.at + 1) →
       P (read (past p (form_of (get_or s p.at 0)).body) k)) →
       P (judged refuse read may s p)
   unfolding judged
@@ -167,6 +167,6 @@ module _ {K R : Type 0} (refuse : Refusal → R) (read : Place → K → R) (may
       meant :
           let f = form_of (get_or s p.at 0) in
           p.at < length s → (o : Option K) → may f.meaning ≡ o → P (allowed refuse read p f.body (leb f.body (length s - (p.at + 1))) o)
-      meant there none m = out (Kind p)
-      meant there (some k) m =
+      meant there None m = out (Kind p)
+      meant there (Some k) m =
           cond_all P (leb (form_of (get_or s p.at 0)).body (length s - (p.at + 1))) (λ e. opens k there m (leb-true _ _ e)) (λ e. out (Short p))

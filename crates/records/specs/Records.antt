@@ -1,7 +1,7 @@
 -- Document 01, 'Bytes': the kinds of record, and what is judged of every record before its body.
 -- Assumes nothing.
 use Rattle.std.specs.Prelude.{ℕ, zero, suc, ◌+◌, ◌-◌, Bool, false, cond, ◌||◌, List, [], ◌∷◌, ◌++◌, map, length, get_or, ltb, leb, eqb}
-use Rattle.std.proofs.Math.Option.{Option, none, some}
+use Rattle.std.specs.Prelude.{Option, None, Some}
 use Rattle.records.specs.declared.refusal.Place.{Place}
 use Rattle.records.specs.declared.refusal.Refusal.{Refusal}
 use Rattle.records.specs.declared.refusal.Refusal.TheVariants.{Short, Kind, Many, Twice, After}
@@ -32,28 +32,28 @@ form_of k =
 
 -- what may stand at a place of a file: the frame record first, then rows; in a plan steps
 abbrev pub frame_only : Meaning → Option (Unit {0})
-frame_only Frame = some tt
-frame_only (Row k) = none
-frame_only (Step k) = none
-frame_only Unknown = none
+frame_only Frame = Some tt
+frame_only (Row k) = None
+frame_only (Step k) = None
+frame_only Unknown = None
 
 abbrev pub row_only : Meaning → Option RowKind
-row_only Frame = none
-row_only (Row k) = some k
-row_only (Step k) = none
-row_only Unknown = none
+row_only Frame = None
+row_only (Row k) = Some k
+row_only (Step k) = None
+row_only Unknown = None
 
 abbrev pub step_only : Meaning → Option StepKind
-step_only Frame = none
-step_only (Row k) = none
-step_only (Step k) = some k
-step_only Unknown = none
+step_only Frame = None
+step_only (Row k) = None
+step_only (Step k) = Some k
+step_only Unknown = None
 
 module _ {K R : Type 0} (refuse : Refusal → R) (read : Place → K → R) where
   -- kind not allowed here KIND; body cut SHORT; else the record is read, and the next one stands past its body
   abbrev pub allowed : Place → ℕ → Bool → Option K → R
-  allowed p body whole none = refuse (Kind p)
-  allowed p body whole (some k) = cond whole (read (past p body) k) (refuse (Short p))
+  allowed p body whole None = refuse (Kind p)
+  allowed p body whole (Some k) = cond whole (read (past p body) k) (refuse (Short p))
 
   -- "within one: no byte left SHORT; kind unknown or not allowed here KIND; body cut SHORT"
   unfoldable pub judged : (Meaning → Option K) → List ℕ → Place → R

@@ -1,5 +1,6 @@
 -- Answers that contracts rule out, for the public functions whose wrong answers no must-fail edit and no statement of crate `marked` shows.
 -- Each says: for this input the function's own contract, as in Functions.antt, does not allow this answer. Assumes nothing.
+use Rattle.std.specs.Prelude.{Option, None, Some}
 use mathlib.Core.Path.{◌≡◌, refl, ap}
 use mathlib.Core.Bool.{Bool, true, false}
 use mathlib.Core.List.{List, [], ◌∷◌}
@@ -54,8 +55,6 @@ use Rattle.frame_record.specs.declared.Frame.{Frame}
 use Rattle.frame_record.specs.declared.Phase.TheVariants.{Open}
 use Rattle.frame_record.specs.declared.Answer.TheVariants.{Done, Refused}
 use Rattle.frame_record.specs.declared.Called.{Called}
-use Rattle.lookup.specs.declared.Found.{Found}
-use Rattle.lookup.specs.declared.Found.TheVariants.{At, Nowhere}
 use Rattle.lookup.specs.Lookup.{first}
 use Rattle.frame_record.specs.Sound.{where_is, sound?, ok_begun}
 use Rattle.frame_record.specs.Answers.{idle}
@@ -353,9 +352,9 @@ refuse = (
 abbrev single : Frame
 single = record { phase = Open; number = 0; clock = 0; deadline = 1; count = 1; next = 0; order = idle.order; entries = idle.entries }
 
-abbrev PositionNot : ℕ → Found → Type 0
+abbrev PositionNot : ℕ → Option ℕ → Type 0
 PositionNot id r = RulesOut frame_record_contracts.Frame.position_of.ended frame_record.Frame.position_of.Reads.Learnt tt (single, (id, tt)) r
 
-pub position_of : PositionNot 0 Nowhere × PositionNot 1 (At 0)
+pub position_of : PositionNot 0 None × PositionNot 1 (Some 0)
 unfolding where_is first
 position_of = ((λ m e. clash (cc)), (λ m e. clash (cc)))

@@ -1,4 +1,5 @@
 -- `frame_reports::give_back` meets its contract: each refusal in turn, and then where the job stands. Assumes nothing.
+use Rattle.std.specs.Prelude.{}
 use mathlib.Core.Path.{sym, ◌∙◌}
 use native.Mathlib.Omega.{arith}
 use borrow.Author.Tests.{lt-ltb, le-ltb, eq-eqb, ne_eqb, not-true, not-false}
@@ -34,36 +35,36 @@ position_of-found-requires c = open_fits _ (is_open_lem _ _ c.is_in.ensures ∙ 
 
 pub offset_bounds-f-i : goal.offset_bounds-f-i
 offset_bounds-f-i c =
-    let at = sym c.position_of-found.ensures ∙ c.in-At.is in
+    let at = sym c.position_of-found.ensures ∙ c.in-Some.is in
     let opened = is_open_lem _ _ c.is_in.ensures ∙ not-false _ c.if-not-is_in.false-raw in
     omega (arith, open_fits _ opened, where_below _ _ _ at)
 
 pub bounds-f-i : goal.bounds-f-i
 bounds-f-i c =
-    let at = sym c.position_of-found.ensures ∙ c.in-At.is in
+    let at = sym c.position_of-found.ensures ∙ c.in-Some.is in
     let opened = is_open_lem _ _ c.is_in.ensures ∙ not-false _ c.if-not-is_in.false-raw in
     omega (arith, open_fits _ opened, where_below _ _ _ at)
 
 pub back_at-requires : goal.back_at-requires
 back_at-requires c =
-    let at = sym c.position_of-found.ensures ∙ c.in-At.is in
+    let at = sym c.position_of-found.ensures ∙ c.in-Some.is in
     let opened = is_open_lem _ _ c.is_in.ensures ∙ not-false _ c.if-not-is_in.false-raw in
     omega (arith, open_fits _ opened, where_below _ _ _ at)
 
-pub returns-in-At : goal.returns-in-At
+pub returns-in-Some : goal.returns-in-Some
 unfolding back_step
-returns-in-At c =
+returns-in-Some c =
     let opened = is_open_lem _ _ c.is_in.ensures ∙ not-false _ c.if-not-is_in.false-raw in
     let number = eq-eqb c.args.number c.args.f.number (omega (arith, c.if-number-f.false)) in
     let clock = le-ltb _ _ c.if-time-clock.false in
-    let found = sym c.position_of-found.ensures ∙ c.in-At.is in
+    let found = sym c.position_of-found.ensures ∙ c.in-Some.is in
     simp (opened, number, clock, found) c.back_at.ensures
 
-pub returns-in-Nowhere : goal.returns-in-Nowhere
+pub returns-in-None : goal.returns-in-None
 unfolding back_step
-returns-in-Nowhere c =
+returns-in-None c =
     let opened = is_open_lem _ _ c.is_in.ensures ∙ not-false _ c.if-not-is_in.false-raw in
     let number = eq-eqb c.args.number c.args.f.number (omega (arith, c.if-number-f.false)) in
     let clock = le-ltb _ _ c.if-time-clock.false in
-    let found = sym c.position_of-found.ensures ∙ c.in-Nowhere.is in
-    simp (opened, number, clock, found) c.refuse-in-Nowhere.ensures
+    let found = sym c.position_of-found.ensures ∙ c.in-None.is in
+    simp (opened, number, clock, found) c.refuse-in-None.ensures

@@ -3,7 +3,7 @@ use Prim.Native.Nat.{ℕ, ◌≤◌, ◌<◌}
 use native.Mathlib.Omega.{arith}
 use mathlib.Core.Path.{◌≡◌, sym, ◌∙◌}
 use mathlib.Core.List.{List}
-use mathlib.Core.Option.{none, some}
+use Rattle.std.specs.Prelude.{None, Some}
 use lib.ListN.{length, get_or}
 use lib.Seq.{get_or-take, length-take-le}
 use borrow.Author.Rules.{rules}
@@ -26,10 +26,10 @@ counted t full few = length-take-le t.count t.jobs (omega (arith, few))
 module _
     (t : Table) (index : List ℕ) (is : Indexes (job_table t).jobs index) (size : length (job_table t).jobs ≡ t.count) (few : t.count ≤ most_jobs)
     (id : ℕ) (byte : id < 256) where
-  lacks : t.count ≤ get_or index id 0 → job_of (job_table t).jobs id ≡ none
+  lacks : t.count ≤ get_or index id 0 → job_of (job_table t).jobs id ≡ None
   lacks h = index_none _ index is (omega (arith, size)) id byte (omega (arith, size))
 
-  has : get_or index id 0 < t.count → job_of (job_table t).jobs id ≡ some (get_or t.jobs (get_or index id 0) no_job)
+  has : get_or index id 0 < t.count → job_of (job_table t).jobs id ≡ Some (get_or t.jobs (get_or index id 0) no_job)
   has h = rw (← get_or-take t.count t.jobs (get_or index id 0) no_job h) (index_tells _ index is (omega (arith, size)) id byte (omega (arith, size)))
 
 -- the job that the step names
@@ -37,7 +37,7 @@ found :
     (c : After-job-1) →
     let id = (step_at c.args.plan.now c.loop-k.k).id in
     let i = get_or c.index_of-index.result id 0 in
-    job_of (job_table c.args.t).jobs id ≡ some (get_or c.args.t.jobs i no_job)
+    job_of (job_table c.args.t).jobs id ≡ Some (get_or c.args.t.jobs i no_job)
 found c =
     let full : length c.args.t.jobs ≡ 32 = search rules in
     let e = has c.args.t _ c.index_of-index.ensures (counted c.args.t full c.requires.0.few) c.requires.0.few _ (search rules) c.if-t-i.false in
