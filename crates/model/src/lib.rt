@@ -21,6 +21,13 @@ pub struct Job {
 }
 
 impl Job {
+    // What stands in an entry that no job has: a job of no time.
+    pub const NONE: Job = Job {
+        id: 0,
+        local: 0,
+        sending: Sending::HereOnly,
+    };
+
     // Whether the job may be sent away.
     pub fn may_go(self) -> bool
         ensures { result ≡ is_either self }
