@@ -17,7 +17,7 @@ returns-in_default c =
     (record { few = c.requires.good.few; times = c.requires.good.times })
     c.args.t.deadline
     (sym c.in_default.is
-    ∙ c.best_choice-found.ensures (job_table c.args.t).jobs
+    ∙ c.best_choice.ensures (job_table c.args.t).jobs
     c.prepare-p.ensures)
 
 pub here_part-draft-requires : goal.here_part-draft-requires
@@ -27,13 +27,13 @@ here_part-draft-requires c =
       few = c.requires.good.few;
       times = c.requires.good.times;
     }) in
-    let m = sym c.in-Mask.is
-    ∙ c.best_choice-found.ensures
+    let m = sym c.in-Some.is
+    ∙ c.best_choice.ensures
     (job_table c.args.t).jobs c.prepare-p.ensures in
     let flags = c.flags_of-flags.ensures (job_table c.args.t).jobs c.prepare-p.ensures in (
       search rules,
       rw flags (found_room (job_table c.args.t).jobs s
-          c.args.t.deadline c.in-Mask.mask m _
+          c.args.t.deadline c.in-Some.mask m _
           (rw flags at (c.away_part-front.ensures (job_table c.args.t).jobs s c.prepare-p.ensures))),
     )
 
@@ -44,8 +44,8 @@ returns c =
       few = c.requires.good.few;
       times = c.requires.good.times;
     }) in
-    let m = sym c.in-Mask.is
-    ∙ c.best_choice-found.ensures
+    let m = sym c.in-Some.is
+    ∙ c.best_choice.ensures
     (job_table c.args.t).jobs c.prepare-p.ensures in
     let flags = c.flags_of-flags.ensures
     (job_table c.args.t).jobs c.prepare-p.ensures in
@@ -53,11 +53,11 @@ returns c =
     (job_table c.args.t).jobs s c.prepare-p.ensures) in
     found_plan (job_table c.args.t).jobs s
     c.args.t.deadline
-    c.in-Mask.mask m _
+    c.in-Some.mask m _
     ((rw flags at c.here_part-draft.ensures)
     (filter is_away (in_away_order (job_table c.args.t).jobs
     (flags_of (job_table c.args.t).jobs
-    c.in-Mask.mask)))
+    c.in-Some.mask)))
     (found_room (job_table c.args.t).jobs s
     c.args.t.deadline
-    c.in-Mask.mask m _ sent) sent)
+    c.in-Some.mask m _ sent) sent)
