@@ -10,7 +10,6 @@ ghost use Rattle.draft.specs.Drafts.{drafted_of};
 ghost use Rattle.planner.specs.Answers.{was_read, SoundRead, FreeRead, GivenRead, LeastRead, Finishes};
 ghost use Rattle.planner.specs.Answers.{FreeAnswer, GivenAnswer, LeastAnswer};
 
-use choice::EarliestMet;
 use draft::Drafted;
 use records::refusal::Refusal;
 use table::{Table, TableRead, TableVerdict};
@@ -100,9 +99,9 @@ pub fn least_deadline_read(read: TableRead) -> Least
     let verdict = read.verdict;
     match verdict {
         TableVerdict::Refused(f) => Least::NoDeadline(f),
-        TableVerdict::Whole => match choice::earliest(choice::prepare(read.table)) {
-            EarliestMet::MetAt(d) => Least::DeadlineIs(d),
-            EarliestMet::NeverMet => Least::NoDeadline(Refusal::None),
+        TableVerdict::Whole => match choice::earliest(&choice::prepare(read.table)) {
+            Some(d) => Least::DeadlineIs(d),
+            None => Least::NoDeadline(Refusal::None),
         },
     }
 }

@@ -11,12 +11,12 @@ earliest-requires c = least_ready c.args.read c.in-Whole.is _ c.prepare.ensures 
 pub returns-in-Refused : goal.returns-in-Refused
 returns-in-Refused c = least_refused c.args.read _ c.in-Refused.is
 
-pub returns-in-MetAt : goal.returns-in-MetAt
-returns-in-MetAt c =
+pub returns-in-Some : goal.returns-in-Some
+returns-in-Some c =
     least_met c.args.read c.in-Whole.is _
-    c.prepare.ensures _ c.earliest.ensures _ c.in-MetAt.is
+    c.prepare.ensures _ c.earliest.ensures _ c.in-Some.is
 
-pub returns-in-NeverMet : goal.returns-in-NeverMet
-returns-in-NeverMet c =
+pub returns-in-None : goal.returns-in-None
+returns-in-None c =
     least_never c.args.read c.in-Whole.is _
-    c.prepare.ensures _ c.earliest.ensures c.in-NeverMet.is
+    c.prepare.ensures _ c.earliest.ensures c.in-None.is
