@@ -1,5 +1,6 @@
 -- A refusal's numbers do not begin with 0, so the record of a refused call has the refusal's number and place.
 -- Assumes nothing.
+use Rattle.std.specs.Prelude.{Err}
 use mathlib.Core.Path.{◌≡◌}
 use native.Mathlib.Omega.{arith}
 use borrow.Author.Tests.{ne_eqb}
@@ -12,8 +13,7 @@ use Rattle.planner.specs.declared.Planned.{Planned}
 use Rattle.planner.specs.declared.Planned.TheVariants.{NotPlanned}
 use Rattle.planner.specs.declared.Least.{Least}
 use Rattle.planner.specs.declared.Least.TheVariants.{NoDeadline}
-use Rattle.judge.specs.declared.Checked.{Checked}
-use Rattle.judge.specs.declared.Checked.TheVariants.{Fails}
+use Rattle.judge.specs.Check.{Checked}
 use Rattle.panel.specs.Numbers.{by_first, planned_numbers, least_numbers, checked_numbers}
 
 refusal_first : {R : Type 0} (f : Refusal) (values refusal : R) → refusal ≡ by_first (refusal_says f) values refusal
@@ -27,5 +27,5 @@ module _ (f : Refusal) (x : Said) (said : x ≡ said_by (refusal_says f)) where
   pub least_refused : (r : Least) → r ≡ NoDeadline f → record { number = x.number; place = x.place; deadline = 0 } ≡ least_numbers r
   least_refused r e = rw (e, said) (refusal_first f _ _)
 
-  pub checked_refused : (r : Checked) → r ≡ Fails f → record { number = x.number; place = x.place; last = 0; busy = 0 } ≡ checked_numbers r
+  pub checked_refused : (r : Checked) → r ≡ Err f → record { number = x.number; place = x.place; last = 0; busy = 0 } ≡ checked_numbers r
   checked_refused r e = rw (e, said) (refusal_first f _ _)
