@@ -37,15 +37,13 @@ impl Plan {
         Plan { count: 0, steps }
     }
 
-    // The plan with one more step at its end.
-    pub fn with_step(mut self, step: Step) -> Plan
-        requires { self.count < most_jobs }
-        ensures { result ≡ with_step self step }
+    // One more step at the plan's end.
+    pub fn push(&mut self, step: Step)
+        requires { self.old.count < most_jobs }
+        ensures { self.new ≡ with_step self.old step }
     {
-        let n = self.count;
-        self.steps[n] = step;
-        self.count = n + 1;
-        self
+        self.steps[self.count] = step;
+        self.count += 1;
     }
 }
 
@@ -130,17 +128,14 @@ fn put_step(area: &mut [u8], at: usize, step: Step) -> usize
 }
 
 // Writes the plan at the front of the area, leaves the rest, and returns how many bytes it wrote.
-pub fn write_plan(area: &mut [u8], plan: Plan) -> usize
-    requires { (plan.count ≤ most_jobs) × (longest_plan ≤ length area.old) }
-    ensures { (result ≡ length (plan_bytes (steps_of plan)))
-        × (area.new ≡ plan_bytes (steps_of plan) ++ drop (length (plan_bytes (steps_of plan))) area.old) }
+pub fn write_plan(area: &mut [u8], plan: &Plan) -> usize
+    requires { (plan.now.count ≤ most_jobs) × (longest_plan ≤ length area.old) }
+    ensures { (result ≡ length (plan_bytes (steps_of plan.now)))
+        × (area.new ≡ plan_bytes (steps_of plan.now) ++ drop (length (plan_bytes (steps_of plan.now))) area.old) }
 {
-    let n = plan.count;
-    let mut i = 0;
     let mut at = 0;
-    while i < n {
-        at = put_step(area, at, plan.steps[i]);
-        i += 1;
+    for &step in &plan.steps[..plan.count] {
+        at = put_step(area, at, step);
     }
     let end = [PLAN_END];
     octets::put(area, at, &end)
