@@ -1,6 +1,6 @@
 -- `frame_begin::entries_of` meets its contract: the first i positions are filled. Assumes nothing.
 use mathlib.Core.Path.{◌≡◌}
-use Prim.Native.Nat.{ℕ, ◌≤◌, ◌-◌}
+use Prim.Native.Nat.{ℕ}
 use lib.ListN.{get_or, take}
 use Rattle.model.specs.Positions.{no_job}
 use Rattle.plan.specs.Plans.{read_plan}
@@ -10,7 +10,4 @@ use Rattle.frame_begin.proofs.entries_of.Given as goal
 
 abbrev pub invariant-loop-i : goal.invariant-loop-i
 invariant-loop-i l =
-    (l.i ≤ l.count) × (l.entries ≡ filled none (λ (k : ℕ). entry_of (steps_in (read_plan l.plan)) l.count (get_or (take l.count l.t.jobs) k no_job)) l.i)
-
-abbrev pub decreases-loop-i : goal.decreases-loop-i
-decreases-loop-i l = l.count - l.i
+    l.entries ≡ filled none (λ (k : ℕ). entry_of (steps_in (read_plan l.plan)) l.fn.t.count (get_or (take l.fn.t.count l.fn.t.jobs) k no_job)) l.i
