@@ -159,9 +159,9 @@ impl Frame {
 
     // Each job of the plan has a position of its own in the table, each job of the table an id of its own, and each stands where it may.
     // One pass: the flags tell the positions and the ids that have come.
-    fn positions_ok(self) -> bool
-        requires { self.count ≤ most_jobs }
-        ensures { result ≡ ok_from self 0 self.count }
+    fn positions_ok(&self) -> bool
+        requires { self.now.count ≤ most_jobs }
+        ensures { result ≡ ok_from self.now 0 self.now.count }
     {
         let mut positions = [false; Table::MOST_JOBS];
         let mut ids = [false; 256];
@@ -181,8 +181,8 @@ impl Frame {
     }
 
     // What a sound record asks once a frame has begun: docs/ has the list.
-    fn ok_begun(self) -> bool
-        ensures { result ≡ ok_begun self }
+    fn ok_begun(&self) -> bool
+        ensures { result ≡ ok_begun self.now }
     {
         self.count <= Table::MOST_JOBS
             && self.next <= self.count
@@ -192,37 +192,37 @@ impl Frame {
     }
 
     // Whether the record is sound: the test that every call makes first.
-    pub fn sound(self) -> bool
-        ensures { result ≡ sound? self }
+    pub fn sound(&self) -> bool
+        ensures { result ≡ sound? self.now }
     {
         self.phase == Phase::Idle || self.ok_begun()
     }
 
     // Sound, and during a frame.
-    pub fn is_open(self) -> bool
-        ensures { result ≡ open? self }
+    pub fn is_open(&self) -> bool
+        ensures { result ≡ open? self.now }
     {
         self.phase == Phase::Open && self.sound()
     }
 
     // Sound, and during a frame or after one.
-    pub fn has_begun(self) -> bool
-        ensures { result ≡ begun? self }
+    pub fn has_begun(&self) -> bool
+        ensures { result ≡ begun? self.now }
     {
         self.phase != Phase::Idle && self.sound()
     }
 
     // Sound, and before a frame or after one.
-    pub fn is_ready(self) -> bool
-        ensures { result ≡ ready? self }
+    pub fn is_ready(&self) -> bool
+        ensures { result ≡ ready? self.now }
     {
         self.phase != Phase::Open && self.sound()
     }
 
     // Where the job of an id stands in the table.
-    pub fn position_of(self, id: u8) -> Option<usize>
-        requires { self.count ≤ most_jobs }
-        ensures { result ≡ where_is self id }
+    pub fn position_of(&self, id: u8) -> Option<usize>
+        requires { self.now.count ≤ most_jobs }
+        ensures { result ≡ where_is self.now id }
     {
         self.entries[..self.count].iter().position(|e| e.id == id)
     }

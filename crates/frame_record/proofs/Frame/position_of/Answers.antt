@@ -11,8 +11,8 @@ use Rattle.frame_record.proofs.Frame.position_of.Goals as goal
 pub returns : goal.returns
 unfolding where_is
 returns c =
-    let full : length c.args.self.entries ≡ 32 = search rules in
+    let full : length c.args.self.now.entries ≡ 32 = search rules in
     position_from_yields_List (λ (e : Entry). eqb e.id c.args.id) _ _ c.position.result c.position.ensures.ran
-    (YieldsList-from_slice (take c.args.self.count c.args.self.entries) c.iter.ensures.rest)
+    (YieldsList-from_slice (take c.args.self.now.count c.args.self.now.entries) c.iter.ensures.rest)
     (λ x b q k. search (rules, tests))
-    ∙ sym (first_front entry_id none c.args.self.entries c.args.id c.args.self.count (rw full c.requires))
+    ∙ sym (first_front entry_id none c.args.self.now.entries c.args.id c.args.self.now.count (rw full c.requires))
