@@ -1,5 +1,6 @@
 -- The readers' and the check's own contracts, in document 01's numbers: whatever they allow says ns exactly when the account of specs/ says ns.
 -- Assumes nothing.
+use Rattle.std.specs.Prelude.{Result}
 use Prim.Native.Nat.{ℕ}
 use mathlib.Core.Path.{◌≡◌, refl, sym, ap, subst, ◌∙◌}
 use mathlib.Core.Logic.{◌⊎◌, inl, inr, ◌↔◌}
@@ -15,9 +16,8 @@ use Rattle.table.specs.Tables.{JobTable, job_table, table_read, verdict_says, ta
 use Rattle.table.proofs.Accepted.{held_table}
 use Rattle.records.proofs.Refusals.{says_not_zero}
 use Rattle.plan.specs.declared.Step.{Step}
-use Rattle.plan.specs.declared.PlanRead.{PlanRead}
 use Rattle.plan.specs.Plans.{plan_read, plan_read_says, steps_for}
-use Rattle.judge.specs.declared.Checked.{Checked}
+use Rattle.judge.specs.Check.{Checked}
 use Rattle.judge.specs.Check.{checked_says}
 use Rattle.faults.specs.Faults.{Byte, TableIs, PlanIs, TableSays, a_table, table_fault, PlanSays, a_plan, plan_fault, FaultAt}
 use Rattle.faults.specs.Checks.{RunsOnTime, PlanOf, CheckIs, no_table, no_plan, misfit, passes, CheckSays, Passed, CheckNumbers}
@@ -72,7 +72,7 @@ read_injective s u bs bu r first second whole =
     the_table l (table_fault f is) e = absurd (says_not_zero f [] e)
 
 -- The plan's reader.
-module _ (s : List ℕ) (r : PlanRead) (allows : PlanAllows s r) where
+module _ (s : List ℕ) (r : (Result ℕ Refusal)) (allows : PlanAllows s r) where
   says_plan : (ns : List ℕ) → PlanSays s ns → plan_read_says r ≡ ns
   says_plan ns (a_plan xs is) = ap plan_read_says (allows ∙ ap plan_read (plan_read_lem s (accepted xs) is))
   says_plan ns (plan_fault f is) = ap plan_read_says (allows ∙ ap plan_read (plan_read_lem s (refused f) is))

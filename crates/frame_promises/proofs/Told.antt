@@ -6,7 +6,7 @@ use native.Mathlib.Numerals.{add-one}
 use mathlib.Core.Path.{◌≡◌, refl, sym, ◌∙◌, ap, subst}
 use mathlib.Core.Bool.{Bool, true, false, cond, not, ◌&&◌}
 use mathlib.Core.List.{List, [], ◌∷◌}
-use Rattle.std.specs.Prelude.{Option, Some, None, Result, Ok}
+use Rattle.std.specs.Prelude.{Option, Some, None, Result, Err, Ok}
 use borrow.Author.Tests.{ltb-true, ltb-false}
 use lib.ListN.{get_or, drop}
 use lib.Seq.{drop-cons}
@@ -22,8 +22,7 @@ use Rattle.table.specs.Tables.{JobTable, read_table}
 use Rattle.table.proofs.Accepted.{accepted_good}
 use Rattle.plan.specs.declared.Step as plan
 use Rattle.plan.specs.Plans.{no_step, read_plan}
-use Rattle.judge.specs.declared.Checked.{Checked}
-use Rattle.judge.specs.declared.Checked.TheVariants.{Passes, Fails}
+use Rattle.judge.specs.Check.{Checked, pass}
 use Rattle.judge.specs.Check.{after_plan, after_table, check_plan}
 use Rattle.frame_record.specs.Finite.{finite?}
 use Rattle.frame_record.specs.Sound as S
@@ -365,7 +364,7 @@ module _ (f : Frame) (fine : Fine f) where
     -- one that is accepted opens the frame of its bytes
     opened_by :
         (t : JobTable) → read_table table ≡ accepted t → (p : Outcome (List plan.Step)) → read_plan s ≡ p → (last busy : ℕ) →
-        after_plan t p ≡ Passes last busy → Tells (begun number t (steps_in p)) (opens number (accepted t) p h)
+        after_plan t p ≡ pass last busy → Tells (begun number t (steps_in p)) (opens number (accepted t) p h)
     unfolding begun
     opened_by t e (accepted xs) q last busy ok =
         let pass = passed t (accepted_good table t e) s last busy (ap (after_plan t) q ∙ ok) in
@@ -373,16 +372,16 @@ module _ (f : Frame) (fine : Fine f) where
     opened_by t e (outcome.refused r) q last busy ok = clash (cc)
 
     begun_fits :
-        (t : JobTable) → read_table table ≡ accepted t → (last busy : ℕ) → after_plan t (read_plan s) ≡ Passes last busy →
+        (t : JobTable) → read_table table ≡ accepted t → (last busy : ℕ) → after_plan t (read_plan s) ≡ pass last busy →
         Fits N h (answers.done (begun number t (steps_in (read_plan s)))) done
     begun_fits t e last busy ok = (refl, rw e (opened_by t e (read_plan s) refl last busy ok))
 
     checked_fits :
         (t : JobTable) → read_table table ≡ accepted t → (k : Checked) → after_plan t (read_plan s) ≡ k →
         Fits N h (begin_checked f number (begun number t (steps_in (read_plan s))) k) (begins k above)
-    checked_fits t e (Passes last busy) ok =
-        both N h (may_open f number) above may _ _ _ _ (λ _. begun_fits t e last busy ok) (λ _. refused_begin R.Number)
-    checked_fits t e (Fails r) ok = refused_begin r
+    checked_fits t e (Ok run) ok =
+        both N h (may_open f number) above may _ _ _ _ (λ _. begun_fits t e run.last run.busy ok) (λ _. refused_begin R.Number)
+    checked_fits t e (Err r) ok = refused_begin r
 
     read_fits : (p : Outcome JobTable) → read_table table ≡ p → Fits N h (begin_read f number s p) (begins (after_table s p) above)
     read_fits (accepted t) e = checked_fits t e (after_plan t (read_plan s)) refl

@@ -14,7 +14,7 @@ ghost use Rattle.choice.specs.Choices.{SoundJobs, prepared_of, Ready};
 ghost use Rattle.free.specs.Parts.{in_away_order, HereRoom};
 
 use choice::{BestMask, Prepared};
-use draft::{Draft, Drafted};
+use draft::Draft;
 use model::Job;
 use table::Table;
 
@@ -53,22 +53,17 @@ fn here_part(
 }
 
 // The plan of the best choice, if some timetable meets the deadline.
-pub fn free_plan(t: Table) -> Drafted
-    requires { Sound t }
-    ensures { result ≡ drafted_of (free most_jobs t.deadline (job_table t).jobs) }
+pub fn free_plan(t: &Table) -> Option<Draft>
+    requires { Sound t.now }
+    ensures { result ≡ drafted_of (free most_jobs t.now.deadline (job_table t.now).jobs) }
 {
-    let p = choice::prepare(t);
+    let p = choice::prepare(*t);
     let found = choice::best_choice(t.deadline, p);
     let BestMask::Mask(mask) = found else {
-        let nothing = Draft::empty();
-        return Drafted {
-            found: false,
-            draft: nothing,
-        };
+        return None;
     };
     let flags = choice::flags_of(p, mask);
     let front = away_part(p, flags);
     let jobs = t.jobs;
-    let draft = here_part(front, jobs, t.count, flags);
-    Drafted { found: true, draft }
+    Some(here_part(front, jobs, t.count, flags))
 }

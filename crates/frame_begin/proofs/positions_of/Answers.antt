@@ -2,7 +2,7 @@
 use mathlib.Core.Path.{◌≡◌, refl, ap, ◌∙◌}
 use native.Mathlib.Omega.{arith}
 use borrow.Author.Rules.{rules}
-use Rattle.table.specs.Tables.{job_table}
+use lib.ListN.{length}
 use Rattle.lookup.specs.Lookup.{position_of, indexed}
 use Rattle.plan.specs.declared.Step.{Step}
 use Rattle.frame_begin.specs.Begin.{filled, positions_of}
@@ -19,10 +19,10 @@ pub loop-k-preserved : goal.loop-k-preserved
 loop-k-preserved c =
     let step = c.step_at-step.ensures ∙ step_in c.args.plan.now c.loop-k.k (omega arith) in
     let told = c.index_of-index.ensures.tells c.step_at-step.result.id (search rules) in
-    filled_more 0 _ _ _ _ c.loop-k.invariant (told ∙ ap (λ (x : Step). indexed (position_of (job_table c.args.t).jobs x.id)) step)
+    filled_more 0 _ _ _ _ c.loop-k.invariant (told ∙ ap (λ (x : Step). indexed (position_of c.args.jobs.now x.id)) step)
 
 pub returns : goal.returns
 unfolding positions_of
 returns c =
-    let e : c.loop-k.k ≡ c.args.t.count = omega arith in
+    let e : c.loop-k.k ≡ length c.args.jobs.now = omega arith in
     c.loop-k.invariant ∙ rw e

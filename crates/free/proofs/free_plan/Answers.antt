@@ -12,52 +12,51 @@ use Rattle.free.proofs.free_plan.Goals as goal
 
 pub returns-in_default : goal.returns-in_default
 returns-in_default c =
-    (λ k. record { found = false; draft = c.empty-nothing.ensures k }) ∙
-    found_nothing (job_table c.args.t).jobs
+    found_nothing (job_table c.args.t.now).jobs
     (record { few = c.requires.good.few; times = c.requires.good.times })
-    c.args.t.deadline
+    c.args.t.now.deadline
     (sym c.in_default.is
-    ∙ c.best_choice-found.ensures (job_table c.args.t).jobs
+    ∙ c.best_choice-found.ensures (job_table c.args.t.now).jobs
     c.prepare-p.ensures)
 
-pub here_part-draft-requires : goal.here_part-draft-requires
-here_part-draft-requires c =
-    let s : SoundJobs (job_table c.args.t).jobs =
+pub here_part-requires : goal.here_part-requires
+here_part-requires c =
+    let s : SoundJobs (job_table c.args.t.now).jobs =
     (record {
       few = c.requires.good.few;
       times = c.requires.good.times;
     }) in
     let m = sym c.in-Mask.is
     ∙ c.best_choice-found.ensures
-    (job_table c.args.t).jobs c.prepare-p.ensures in
-    let flags = c.flags_of-flags.ensures (job_table c.args.t).jobs c.prepare-p.ensures in (
+    (job_table c.args.t.now).jobs c.prepare-p.ensures in
+    let flags = c.flags_of-flags.ensures (job_table c.args.t.now).jobs c.prepare-p.ensures in (
       search rules,
-      rw flags (found_room (job_table c.args.t).jobs s
-          c.args.t.deadline c.in-Mask.mask m _
-          (rw flags at (c.away_part-front.ensures (job_table c.args.t).jobs s c.prepare-p.ensures))),
+      rw flags (found_room (job_table c.args.t.now).jobs s
+          c.args.t.now.deadline c.in-Mask.mask m _
+          (rw flags at (c.away_part-front.ensures (job_table c.args.t.now).jobs s c.prepare-p.ensures))),
     )
 
 pub returns : goal.returns
 returns c =
-    let s : SoundJobs (job_table c.args.t).jobs =
+    let s : SoundJobs (job_table c.args.t.now).jobs =
     (record {
       few = c.requires.good.few;
       times = c.requires.good.times;
     }) in
     let m = sym c.in-Mask.is
     ∙ c.best_choice-found.ensures
-    (job_table c.args.t).jobs c.prepare-p.ensures in
+    (job_table c.args.t.now).jobs c.prepare-p.ensures in
     let flags = c.flags_of-flags.ensures
-    (job_table c.args.t).jobs c.prepare-p.ensures in
+    (job_table c.args.t.now).jobs c.prepare-p.ensures in
     let sent = rw flags at (c.away_part-front.ensures
-    (job_table c.args.t).jobs s c.prepare-p.ensures) in
-    found_plan (job_table c.args.t).jobs s
-    c.args.t.deadline
+    (job_table c.args.t.now).jobs s c.prepare-p.ensures) in
+    found_plan (job_table c.args.t.now).jobs s
+    c.args.t.now.deadline
     c.in-Mask.mask m _
-    ((rw flags at c.here_part-draft.ensures)
-    (filter is_away (in_away_order (job_table c.args.t).jobs
-    (flags_of (job_table c.args.t).jobs
+    ((rw flags at c.here_part.ensures)
+    (filter is_away (in_away_order (job_table c.args.t.now).jobs
+    (flags_of (job_table c.args.t.now).jobs
     c.in-Mask.mask)))
-    (found_room (job_table c.args.t).jobs s
-    c.args.t.deadline
+    (found_room (job_table c.args.t.now).jobs s
+    c.args.t.now.deadline
     c.in-Mask.mask m _ sent) sent)
