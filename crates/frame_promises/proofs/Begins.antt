@@ -19,7 +19,7 @@ use Rattle.frame_promises.specs.Call.{begin}
 use Rattle.model.proofs.Tests.{false_true}
 use Rattle.frame_promises.specs.History.{Turn, Last, History, idle, opened, closed, done, refuse, begins, reply, is_accepted, history}
 use Rattle.frame_promises.specs.Runs.{FromIdle}
-use Rattle.frame_promises.specs.Own.{NotOpen, none_begun, was_closed, AboveLast, passes, MayBegin}
+use Rattle.frame_promises.specs.Own.{NotOpen, none_begun, was_closed, AboveLast, Passes, MayBegin}
 use Rattle.frame_promises.proofs.Laws.{refused_not}
 use Rattle.frame_promises.proofs.Since.{Since, Traced, refused_else}
 use Rattle.frame_promises.proofs.Readings.{never_and_last, same_begin}
@@ -134,7 +134,7 @@ module _ (before : List Turn) (table plan : List ℕ) (number : ℕ) (s : Reply)
   pub begin_fails : NotOpen before → (r : Refusal) → checked_says (check_plan table plan) ≡ refusal_says r → s ≡ says (refusal_says r)
   begin_fails n r e = shut_is n ∙ failing (check_plan table plan) (is_above h number) r e
 
-  pub begin_number : NotOpen before → passes table plan → (AboveLast before number → ⊥) → s ≡ refuse 13
+  pub begin_number : NotOpen before → Passes table plan → (AboveLast before number → ⊥) → s ≡ refuse 13
   begin_number n p low = shut_is n ∙ passing (check_plan table plan) (is_above h number) p ∙ step (is_above h number) refl
     where
       step : (q : Bool) → is_above h number ≡ q → cond q done (refuse 13) ≡ refuse 13

@@ -1,6 +1,6 @@
 -- One principle for the runner's calls: what holds where a call is refused, where it only asks, where a span has ended, where a job came back,
 -- where the frame was closed and where one was begun, each with what is known there, holds of every call. Assumes nothing.
-use Rattle.std.specs.Prelude.{Option, None, Some, Err, Ok}
+use Rattle.std.specs.Prelude.{Option, None, Some, Result, Err, Ok}
 use Prim.Native.Nat.{ℕ, ◌+◌, ◌<◌}
 use native.Mathlib.Omega.{arith}
 use mathlib.Core.Path.{◌≡◌, refl}
@@ -43,7 +43,7 @@ use Rattle.frame_begin.proofs.Passed.{PlanFits, passed}
 module _ (f : Frame) (Q : Called → Type 0) where
   pub record Cases : Type 0 where
     pub refuses : (r : Refusal) → Q (refused r f)
-    pub asks : (a : Answer) → Q (asked f a)
+    pub asks : (a : Result Answer Refusal) → Q (asked f a)
     -- the span of the job on the panel ends: it is out; it has its value, or is late
     pub goes_out :
         open? f ≡ true → f.next < f.count → (panel_entry f).away ≡ true →
