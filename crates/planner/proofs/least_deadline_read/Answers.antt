@@ -1,7 +1,8 @@
 -- `planner::least_deadline_read` meets its contract: the table's refusal, the least deadline, or NONE. Assumes nothing.
 use mathlib.Core.Path.{◌≡◌}
 use Rattle.std.proofs.Common.{rules}
-use Rattle.std.specs.Prelude.{Err}
+use Rattle.std.specs.Prelude.{Err, ok_or}
+use Rattle.records.specs.declared.refusal.Refusal.TheVariants as R
 use Rattle.planner.proofs.Deadlines.{least_refused, least_ready, least_answered}
 use Rattle.planner.proofs.least_deadline_read.Goals as goal
 
@@ -14,4 +15,6 @@ pub earliest-requires : goal.earliest-requires
 earliest-requires c = least_ready c.args.read _ c.in_ok-table.was _ c.prepare.ensures c.requires
 
 pub returns : goal.returns
-returns c = rw c.ok_or.ensures (least_answered c.args.read _ c.in_ok-table.was _ c.prepare.ensures _ c.earliest.ensures)
+returns c =
+    let said : c.ok_or.result ≡ ok_or c.earliest.result R.None = search rules in
+    rw said (least_answered c.args.read _ c.in_ok-table.was _ c.prepare.ensures _ c.earliest.ensures)
