@@ -13,7 +13,7 @@ use Rattle.table.specs.Tables.{JobTable}
 use Rattle.plan.specs.Plans.{plan_bytes, steps_for}
 use Rattle.planner.specs.declared.Planned.{Planned}
 use Rattle.planner.specs.Answers.{planned_says, Writes}
-use Rattle.judge.specs.declared.Checked.{Checked}
+use Rattle.judge.specs.Check.{Checked}
 use Rattle.judge.specs.Check.{checked_says}
 use Rattle.faults.specs.Faults.{Byte, TableIs, PlanIs}
 use Rattle.faults.specs.Checks.{PlanOf}

@@ -4,7 +4,7 @@ use Rattle.planner.specs.declared.Planned.{Planned}
 use Rattle.planner.specs.Answers.{planned_says, least_says}
 use Rattle.planner.specs.declared.Least.{Least}
 use Rattle.faults.specs.Allows.{to, to_mut}
-use Rattle.judge.specs.declared.Checked.{Checked}
+use Rattle.judge.specs.Check.{Checked}
 use Rattle.judge.specs.Check.{checked_says}
 use Rattle.panel.specs.declared.PlannedNumbers.{PlannedNumbers}
 use Rattle.panel.specs.declared.LeastNumbers.{LeastNumbers}

@@ -61,9 +61,9 @@ fn jobs_at(jobs: &[Job], positions: &[usize]) -> [Job; Table::MOST_JOBS]
 }
 
 // What the table's deadline has no part in, so that one preparation serves every deadline that is asked.
-pub fn prepare(t: Table) -> Prepared
-    requires { Sound t }
-    ensures { result ≡ prepared_of (job_table t).jobs }
+pub fn prepare(t: &Table) -> Prepared
+    requires { Sound t.now }
+    ensures { result ≡ prepared_of (job_table t.now).jobs }
 {
     let jobs = &t.jobs[..t.count];
     let order = order::away_order(jobs);

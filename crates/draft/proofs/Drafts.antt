@@ -21,7 +21,7 @@ use Rattle.records.specs.Limits.{most_jobs, largest_time}
 use Rattle.plan.specs.Plans.{plan_of, step_of, steps_for}
 use Rattle.plan.proofs.Steps.{with_step_of, steps_append, steps_length}
 use Rattle.draft.specs.declared.Draft.{Draft}
-use Rattle.draft.specs.Drafts.{draft_of, with_chosen, with_if}
+use Rattle.draft.specs.Drafts.{draft_of, with_chosen}
 
 pub draft_more : (cs : List Chosen) (c : Chosen) → length cs < most_jobs → with_chosen (draft_of cs) c ≡ draft_of (cs ++ (c ∷ []))
 draft_more cs c h =
@@ -78,7 +78,7 @@ module _ (f : Chosen → Bool) (front cs : List Chosen) where
           omega (arith, roomy.early, roomy.few, held_few, length-append front (filter f (take i cs))),
         )
 
-    pub listing_more : Listing (with_if draft (f c) c) (i + 1)
+    pub listing_more : Listing (cond (f c) (with_chosen draft c) draft) (i + 1)
     listing_more =
         record { within = omega arith; held = rw l.held (step (f c) refl) }
       where

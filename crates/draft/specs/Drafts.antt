@@ -1,12 +1,11 @@
 -- A plan in the making: the jobs laid so far in plan order, as steps and as numbers.
 -- Assumes nothing.
-use Rattle.std.specs.Prelude.{Bool, true, false, cond, List, []}
+use Rattle.std.specs.Prelude.{List, Bool, cond}
 use Rattle.std.specs.Prelude.{Option, None, Some}
 use Rattle.model.specs.Timetable.{Chosen}
 use Rattle.model.specs.Laying.{laid_of, laid_with}
 use Rattle.plan.specs.Plans.{plan_of, with_step, step_of, steps_for}
 use Rattle.draft.specs.declared.Draft.{Draft}
-use Rattle.draft.specs.declared.Drafted.{Drafted}
 
 -- the draft that has these jobs, in this order
 abbrev pub draft_of : List Chosen → Draft
@@ -19,6 +18,6 @@ abbrev pub with_if : Draft → Bool → Chosen → Draft
 with_if d listed c = cond listed (with_chosen d c) d
 
 -- what a planner finds: a plan in plan order, or none
-abbrev pub drafted_of : Option (List Chosen) → Drafted
-drafted_of None = record { found = false; draft = draft_of [] }
-drafted_of (Some cs) = record { found = true; draft = draft_of cs }
+abbrev pub drafted_of : Option (List Chosen) → Option Draft
+drafted_of None = None
+drafted_of (Some cs) = Some (draft_of cs)

@@ -15,13 +15,6 @@ pub struct Draft {
     pub laid: Laid,
 }
 
-// A planner's result: an enum does not hold an array, so the draft stands beside `found`, and has no steps where nothing is found.
-#[derive(Clone, Copy)]
-pub struct Drafted {
-    pub found: bool,
-    pub draft: Draft,
-}
-
 impl Draft {
     // The draft with no steps.
     pub fn empty() -> Draft
@@ -32,27 +25,23 @@ impl Draft {
         Draft { plan, laid }
     }
 
-    // With one job more at its end.
-    pub fn with_job(self, job: Job, away: bool) -> Draft
-        requires { (self.plan.count < most_jobs) × (self.laid.busy ≤ most_busy) }
-        ensures { result ≡ with_chosen self (chosen job away) }
+    // One job more at its end.
+    pub fn push(&mut self, job: Job, away: bool)
+        requires { (self.old.plan.count < most_jobs) × (self.old.laid.busy ≤ most_busy) }
+        ensures { self.new ≡ with_chosen self.old (chosen job away) }
     {
-        let before = self.plan;
-        let behind = self.laid;
-        let plan = before.with_step(Step { id: job.id, away });
-        let laid = behind.with(job, away);
-        Draft { plan, laid }
+        self.plan.push(Step { id: job.id, away });
+        self.laid = self.laid.with(job, away);
     }
 
     // With one job more at its end, if it is listed.
-    pub fn with_if(self, listed: bool, job: Job, away: bool) -> Draft
+    pub fn with_if(mut self, listed: bool, job: Job, away: bool) -> Draft
         requires { listed ≡ true → (self.plan.count < most_jobs) × (self.laid.busy ≤ most_busy) }
         ensures { result ≡ with_if self listed (chosen job away) }
     {
         if listed {
-            self.with_job(job, away)
-        } else {
-            self
+            self.push(job, away);
         }
+        self
     }
 }

@@ -6,7 +6,7 @@ use mathlib.Core.Path.{◌≡◌, refl, sym, ap, subst, ◌∙◌}
 use mathlib.Core.Logic.{◌⊎◌, inl, inr, ◌↔◌, ⊎_elim}
 use mathlib.Core.Bool.{Bool, true, false, cond, not, ◌&&◌, ◌||◌, or-true}
 use mathlib.Core.List.{List, [], ◌∷◌, ◌++◌, map, Memᴰ, append-nil}
-use Rattle.std.specs.Prelude.{None, Some}
+use Rattle.std.specs.Prelude.{None, Some, Err}
 use lib.Seq.{append_snoc}
 use lib.Dec.{T, leb}
 use borrow.Author.Tests.{leb-true, leb-false, ne_eqb}
@@ -30,8 +30,7 @@ use Rattle.lookup.specs.Lookup.{job_of, with_key}
 use Rattle.lookup.proofs.Lookup.{with_own}
 use Rattle.plan.specs.declared.Step.{Step}
 use Rattle.plan.specs.Plans.{step_id, steps_for}
-use Rattle.judge.specs.declared.Checked.{Checked}
-use Rattle.judge.specs.declared.Checked.TheVariants.{Passes, Fails}
+use Rattle.judge.specs.Check.{Checked, pass}
 use Rattle.judge.specs.Check.{chosen_by, before, listed, lacks_one, timed, after_plan, after_table, check_plan}
 use Rattle.judge.proofs.Jobs.{Named, perm_members, listed_from, lacks_that, none_left, all_or_left}
 use Rattle.faults.specs.Faults.{Byte, TableIs, PlanIs}
@@ -52,22 +51,22 @@ module _ (D : ℕ) (cs : List Chosen) where
   runs_full runs = (full_iff D 0 cs).1 ((fits_iff_runs D cs).1 runs)
 
   pub data Timed : Checked → Type 0 where
-    on_time : RunsOnTime D cs → Timed (Passes (last_from 0 cs) (busy cs))
-    too_late : ¬ OnTime D 0 (full_run cs) → Timed (Fails Late)
+    on_time : RunsOnTime D cs → Timed (pass (last_from 0 cs) (busy cs))
+    too_late : ¬ OnTime D 0 (full_run cs) → Timed (Err Late)
 
   pub timed_is : Timed (timed D cs)
   timed_is = step (leb (last_from 0 cs) D) refl
     where
-      step : (b : Bool) → leb (last_from 0 cs) D ≡ b → Timed (cond b (Passes (last_from 0 cs) (busy cs)) (Fails Late))
+      step : (b : Bool) → leb (last_from 0 cs) D ≡ b → Timed (cond b (pass (last_from 0 cs) (busy cs)) (Err Late))
       step true e = on_time ((fits_iff_runs D cs).0 ((fits_last D 0 cs).1 (leb-true _ _ e)))
       step false e = too_late (λ h. omega (arith, (fits_last D 0 cs).0 ((full_iff D 0 cs).0 h), leb-false (last_from 0 cs) D e))
 
   -- so only one of the two is said
-  said_late : ¬ OnTime D 0 (full_run cs) → {c : Checked} → Timed c → c ≡ Fails Late
+  said_late : ¬ OnTime D 0 (full_run cs) → {c : Checked} → Timed c → c ≡ Err Late
   said_late out (on_time runs) = absurd (out (runs_full runs))
   said_late out (too_late o) = refl
 
-  said_pass : RunsOnTime D cs → {c : Checked} → Timed c → c ≡ Passes (last_from 0 cs) (busy cs)
+  said_pass : RunsOnTime D cs → {c : Checked} → Timed c → c ≡ pass (last_from 0 cs) (busy cs)
   said_pass runs (on_time r) = refl
   said_pass runs (too_late out) = absurd (out (runs_full runs))
 
@@ -174,7 +173,7 @@ module _ (t : JobTable) (good : GoodTable t) where
           none_left js cs plan.each,
         )
 
-  misfit_read : {xs : List Step} {f : Refusal} → Misfit t xs f → after_plan t (accepted xs) ≡ Fails f
+  misfit_read : {xs : List Step} {f : Refusal} → Misfit t xs f → after_plan t (accepted xs) ≡ Err f
   misfit_read (at_step done x later {f} ok y) =
       let r = steps_are js done ok in
       let refuses : listed js (done ++ (x ∷ later)) ≡ refused f =
@@ -225,20 +224,20 @@ module _ (s p : List ℕ) where
         (λ r.
         let lacks = lacks_tells (map step_id (steps_for cs)) t.jobs r.1 in
         let differs = unused_differs step_id (steps_for cs) lacks.0.id lacks.2 in
-        (Fails Left, misfit t (steps_for cs) table plan (left (steps_for cs) lacks.0 ok lacks.1 differs)))
+        (Err Left, misfit t (steps_for cs) table plan (left (steps_for cs) lacks.0 ok lacks.1 differs)))
         (all_or_left t.jobs cs table.0.distinct plan.0.distinct (named t.jobs table.0.distinct cs members))
 
     of_steps : (xs : List Step) → PlanIs p (accepted xs) → Steps t xs → Something
     of_steps xs plan (inl ok) = let r = steps_are t.jobs xs ok in listed_or_left r.0 (rw r.1 plan) r.2 r.3 (rw r.1 ok)
-    of_steps xs plan (inr y) = (Fails y.0, misfit t xs table plan y.1)
+    of_steps xs plan (inr y) = (Err y.0, misfit t xs table plan y.1)
 
     of_plan : (o : Outcome (List Step)) → PlanIs p o → Something
     of_plan (accepted xs) plan = of_steps xs plan (steps_or_fault t table.0.distinct [] xs tt)
-    of_plan (refused f) y = (Fails f, no_plan t table y)
+    of_plan (refused f) y = (Err f, no_plan t table y)
 
   of_table : (o : Outcome JobTable) → TableIs s o → Something
   of_table (accepted t) table = of_plan t table (plan_or_fault p).0 (plan_or_fault p).1
-  of_table (refused f) y = (Fails f, no_table y)
+  of_table (refused f) y = (Err f, no_table y)
 
   pub check_there : All Byte s → Something
   check_there bytes = of_table (table_or_fault s bytes).0 (table_or_fault s bytes).1

@@ -1,6 +1,6 @@
 -- Document 01, 'The check' and 'Refusal numbers': what a table and a plan come to, told with neither reader nor check.
 -- That `check_plan` says exactly this is proved in proofs/Checks.antt. Assumes nothing.
-use Rattle.std.specs.Prelude.{ℕ, ◌≤◌, ◌≡◌, true, false, length}
+use Rattle.std.specs.Prelude.{ℕ, ◌≤◌, ◌≡◌, true, false, length, Err}
 use mathlib.Core.List.{List, [], ◌∷◌, ◌++◌, map, Memᴰ, Permᴰ}
 use Rattle.model.specs.declared.Job.{Job}
 use Rattle.model.specs.Lists.{All}
@@ -13,8 +13,7 @@ use Rattle.records.specs.Refusals.{accepted}
 use Rattle.table.specs.Tables.{JobTable}
 use Rattle.plan.specs.declared.Step.{Step}
 use Rattle.plan.specs.Plans.{step_of, steps_for}
-use Rattle.judge.specs.declared.Checked.{Checked}
-use Rattle.judge.specs.declared.Checked.TheVariants.{Passes, Fails}
+use Rattle.judge.specs.Check.{Checked, pass}
 use Rattle.judge.specs.Check.{checked_says}
 use Rattle.faults.specs.Faults.{TableFault, PlanFault, TableIs, PlanIs, FaultAt}
 
@@ -50,12 +49,12 @@ pub data Misfit (t : JobTable) : List Step → Refusal → Type 0 where
 
 -- "Order: the table's refusals, the plan's", then these; "a pass returns that run's last finish and busy total", and every run is then on time
 pub data CheckIs (s p : List ℕ) : Checked → Type 0 where
-  no_table : {f : Refusal} → TableFault s f → CheckIs s p (Fails f)
-  no_plan : (t : JobTable) {f : Refusal} → TableIs s (accepted t) → PlanFault p f → CheckIs s p (Fails f)
-  misfit : (t : JobTable) (xs : List Step) {f : Refusal} → TableIs s (accepted t) → PlanIs p (accepted xs) → Misfit t xs f → CheckIs s p (Fails f)
+  no_table : {f : Refusal} → TableFault s f → CheckIs s p (Err f)
+  no_plan : (t : JobTable) {f : Refusal} → TableIs s (accepted t) → PlanFault p f → CheckIs s p (Err f)
+  misfit : (t : JobTable) (xs : List Step) {f : Refusal} → TableIs s (accepted t) → PlanIs p (accepted xs) → Misfit t xs f → CheckIs s p (Err f)
   passes :
       (t : JobTable) (cs : List Chosen) → TableIs s (accepted t) → PlanIs p (accepted (steps_for cs)) → PlanOf t.jobs cs →
-      RunsOnTime t.deadline cs → CheckIs s p (Passes (last_from 0 cs) (busy cs))
+      RunsOnTime t.deadline cs → CheckIs s p (pass (last_from 0 cs) (busy cs))
 
 -- the same in numbers: 0, last finish and busy total; 1 to 6 and a place; 8 STRANGER, 9 KEPT, 10 LEFT, 11 LATE
 abbrev pub CheckSays : List ℕ → List ℕ → List ℕ → Type 0

@@ -1,14 +1,15 @@
 -- What a plan that passes the check tells of its table, position by position: each step names a job, there are as many steps as jobs,
 -- and ids differ. Assumes nothing.
-use Prim.Native.Nat.{ℕ, zero, suc, ◌<◌}
+use Prim.Native.Nat.{ℕ, zero, suc, ◌<◌, ◌≤◌}
 use native.Mathlib.Omega.{arith}
 use mathlib.Core.Path.{◌≡◌, refl, sym, ◌∙◌, ap}
 use mathlib.Core.Bool.{Bool, true, false, cond}
 use mathlib.Core.Logic.{inl, inr}
 use mathlib.Core.List.{List, [], ◌∷◌, map}
-use Rattle.std.specs.Prelude.{Some}
+use Rattle.std.specs.Prelude.{Some, Err, Ok}
 use lib.Dec.{eqb}
-use lib.ListN.{length, get_or, length-map}
+use lib.ListN.{length, take, get_or, length-map}
+use lib.Seq.{length-take-le}
 use borrow.Author.Tests.{eqb-true}
 use Rattle.model.specs.declared.Job.{Job}
 use Rattle.model.specs.Lists.{All, Pairwise}
@@ -18,13 +19,15 @@ use Rattle.model.proofs.Lists.{clash, all_map, map_all, all_at}
 use Rattle.model.proofs.Permutations.{length_perm}
 use Rattle.model.proofs.PlanOrder.{job_of as the_job}
 use Rattle.records.specs.Refusals.{Outcome, accepted, refused}
-use Rattle.table.specs.Tables.{JobTable, GoodTable}
+use Rattle.table.specs.declared.Table.{Table}
+use Rattle.table.specs.Tables.{JobTable, GoodTable, Sound, job_table}
 use Rattle.records.specs.declared.refusal.Refusal.TheVariants.{Left}
 use Rattle.lookup.specs.Lookup.{job_of, with_key}
 use Rattle.plan.specs.declared.Step as plan
 use Rattle.plan.specs.Plans.{step_id, no_step, step_at, read_plan, step_of}
 use Rattle.plan.proofs.Plans.{accepted_plan, step_at_lem}
-use Rattle.judge.specs.declared.Checked.TheVariants.{Passes, Fails}
+use Rattle.judge.specs.declared.Passed.{Passed}
+use Rattle.judge.specs.Check.{pass}
 use Rattle.judge.specs.Check.{listed, lacks_one, timed, after_listed, after_plan}
 use Rattle.judge.proofs.Jobs.{ListedAs, listed_tells, all_or_left}
 use Rattle.frame_begin.specs.Begin.{steps_in}
@@ -90,7 +93,7 @@ module _ (t : JobTable) (good : GoodTable t) (s : List ℕ) (xs : List plan.Step
 
   passed_of :
       (cs : List Chosen) → ListedAs js xs cs → (b : Bool) → lacks_one js (map step_id xs) ≡ b →
-      cond b (Fails Left) (timed t.deadline cs) ≡ Passes last busy → PlanFits t xs
+      cond b (Err Left) (timed t.deadline cs) ≡ pass last busy → PlanFits t xs
   passed_of cs l true e p = clash (cc)
   passed_of cs l false e p = record {
     good = good;
@@ -101,15 +104,24 @@ module _ (t : JobTable) (good : GoodTable t) (s : List ℕ) (xs : List plan.Step
     jobs_differ = λ i k h b. pairwise_at no_job (λ (x y : Job). ¬ (x.id ≡ y.id)) js good.distinct i k h b;
   }
 
-  passed_listed : (o : Outcome (List Chosen)) → listed js xs ≡ o → after_listed t xs o ≡ Passes last busy → PlanFits t xs
+  passed_listed : (o : Outcome (List Chosen)) → listed js xs ≡ o → after_listed t xs o ≡ pass last busy → PlanFits t xs
   passed_listed (refused r) e p = clash (cc)
   passed_listed (accepted cs) e p = passed_of cs (listed_tells js xs cs e) (lacks_one js (map step_id xs)) refl p
 
 passed_read :
-    (t : JobTable) → GoodTable t → (s : List ℕ) (last busy : ℕ) (o : Outcome (List plan.Step)) → read_plan s ≡ o → after_plan t o ≡ Passes last busy →
+    (t : JobTable) → GoodTable t → (s : List ℕ) (last busy : ℕ) (o : Outcome (List plan.Step)) → read_plan s ≡ o → after_plan t o ≡ pass last busy →
     PlanFits t (steps_in o)
 passed_read t good s last busy (refused r) e p = clash (cc)
 passed_read t good s last busy (accepted xs) e p = passed_listed t good s xs e last busy (listed t.jobs xs) refl p
 
-pub passed : (t : JobTable) → GoodTable t → (s : List ℕ) (last busy : ℕ) → after_plan t (read_plan s) ≡ Passes last busy → PlanFits t (steps_in (read_plan s))
+pub passed : (t : JobTable) → GoodTable t → (s : List ℕ) (last busy : ℕ) → after_plan t (read_plan s) ≡ pass last busy → PlanFits t (steps_in (read_plan s))
 passed t good s last busy p = passed_read t good s last busy (read_plan s) refl p
+
+-- a plan that passes has a step for each job of the table
+pub steps_enough :
+    (t : Table) → Sound t → length t.jobs ≡ 32 → (s : List ℕ) (run : Passed) → after_plan (job_table t) (read_plan s) ≡ Ok run →
+    t.count ≤ length (steps_in (read_plan s))
+steps_enough t sound full s run p =
+    let held : length (take t.count t.jobs) ≡ t.count = length-take-le t.count t.jobs (omega (arith, sound.few)) in
+    let enough : length (take t.count t.jobs) ≡ length (steps_in (read_plan s)) = (passed (job_table t) sound.good s run.last run.busy p).enough in
+    omega arith

@@ -1,6 +1,6 @@
 -- Document 01, 'The frame runner': "Begin (table, plan, frame number 0..4,294,967,295): PHASE if open; the check's refusals; NUMBER (never
 -- from idle). Opens with the time at 0 and no values." Assumes nothing.
-use Rattle.std.specs.Prelude.{ℕ, zero, suc, Bool, false, cond, ◌||◌, List, [], length, get_or, set, replicate, ltb, Option, None, Some}
+use Rattle.std.specs.Prelude.{ℕ, zero, suc, Bool, false, cond, ◌||◌, List, [], length, get_or, set, replicate, ltb, Option, None, Some, Err, Ok}
 use Rattle.model.specs.declared.Job.{Job}
 use Rattle.model.specs.Positions.{no_job}
 use Rattle.records.specs.Limits.{most_jobs}
@@ -10,8 +10,7 @@ use Rattle.table.specs.Tables.{JobTable, read_table}
 use Rattle.records.specs.declared.refusal.Refusal.TheVariants as R
 use Rattle.plan.specs.declared.Step as plan
 use Rattle.plan.specs.Plans.{step_id, no_step, read_plan}
-use Rattle.judge.specs.declared.Checked.{Checked}
-use Rattle.judge.specs.declared.Checked.TheVariants.{Passes, Fails}
+use Rattle.judge.specs.Check.{Checked}
 use Rattle.judge.specs.Check.{after_plan}
 use Rattle.lookup.specs.Lookup.{first, position_of, indexed}
 use Rattle.frame_record.specs.Sound.{none, is_idle, ready?}
@@ -78,8 +77,8 @@ abbrev pub may_open : Frame → ℕ → Bool
 may_open f number = is_idle f.phase || ltb f.number number
 
 abbrev pub begin_checked : Frame → ℕ → Frame → Checked → Called
-begin_checked f number g (Fails r) = refused r f
-begin_checked f number g (Passes last busy) = cond (may_open f number) (done g) (refused R.Number f)
+begin_checked f number g (Err r) = refused r f
+begin_checked f number g (Ok run) = cond (may_open f number) (done g) (refused R.Number f)
 
 abbrev pub begin_read : Frame → ℕ → List ℕ → Outcome JobTable → Called
 begin_read f number plan (outcome.refused r) = refused r f

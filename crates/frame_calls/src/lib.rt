@@ -2,81 +2,71 @@
 #![tactic(auto)]
 
 ghost use Rattle.std.specs.Prelude.{◌≡◌};
-ghost use Rattle.frame_record.specs.Answers.{done};
-ghost use Rattle.frame_calls.specs.Calls.{next_of, closed, close_step, unreported, reading_of, read_of, asked, event_step};
+ghost use Rattle.frame_record.specs.Answers.{answered};
+ghost use Rattle.frame_calls.specs.Calls.{next_of, close_step, unreported, reading_of, read_of, asked, event_step};
 
 use frame_record::{Answer, Called, Event, Frame, Phase, Reading, Standing};
 use frame_reports::{give_back, span_end};
 use records::refusal::Refusal;
 
 // A call that only asks leaves the record as it was.
-fn asked(f: Frame, answer: Answer) -> Called
-    ensures { result ≡ asked f answer }
+fn asked(frame: Frame, answer: Result<Answer, Refusal>) -> Called
+    ensures { result ≡ asked frame answer }
 {
-    Called { answer, frame: f }
+    Called { answer, frame }
 }
 
 // The job now on the panel, or none left.
-pub fn panel_job(f: Frame) -> Answer
+#[tactic(auto, using(frame_record::proofs::Laws::open_fits, frame_record::proofs::Laws::open_position), unfolding(crate::specs::Calls::next_of))]
+pub fn panel_job(f: Frame) -> Result<Answer, Refusal>
     ensures { result ≡ next_of f }
 {
-    if !f.is_in(false, true, false) {
-        return Answer::Refused(Refusal::Phase);
+    if !f.is_open() {
+        return Err(Refusal::Phase);
     }
-    let k = f.next;
-    if k < f.count {
-        let at = f.order[k];
-        let e = f.entries[at];
-        return Answer::Panel(e.id, e.away);
+    if f.count <= f.next {
+        return Ok(Answer::Rest);
     }
-    Answer::Rest
+    let e = f.entries[f.order[f.next]];
+    Ok(Answer::Panel(e.id, e.away))
 }
 
-// The frame is closed, and stays as it is.
-fn closed_at(f: Frame, time: u16) -> Called
-    ensures { result ≡ done (closed f time) }
+// The record once the frame has ended; it stays as it is.
+#[tactic(auto, unfolding(crate::specs::Calls::close_step))]
+fn closed(f: Frame, time: u16) -> Result<Frame, Refusal>
+    ensures { answered f result ≡ close_step f time }
 {
-    let order = f.order;
-    let entries = f.entries;
-    Called {
-        answer: Answer::Done,
-        frame: Frame {
-            phase: Phase::Closed,
-            number: f.number,
-            clock: time,
-            deadline: f.deadline,
-            count: f.count,
-            next: f.next,
-            order,
-            entries,
-        },
+    if !f.is_open() {
+        return Err(Refusal::Phase);
     }
+    if time < f.clock {
+        return Err(Refusal::Clock);
+    }
+    if time < f.deadline {
+        return Err(Refusal::Early);
+    }
+    Ok(Frame {
+        phase: Phase::Closed,
+        clock: time,
+        ..f
+    })
 }
 
 // The frame ends, at its deadline or later.
 pub fn close(f: Frame, time: u16) -> Called
     ensures { result ≡ close_step f time }
 {
-    if !f.is_in(false, true, false) {
-        return f.refuse(Refusal::Phase);
-    }
-    if time < f.clock {
-        return f.refuse(Refusal::Clock);
-    }
-    if time < f.deadline {
-        return f.refuse(Refusal::Early);
-    }
-    closed_at(f, time)
+    f.answered(closed(f, time))
 }
 
-// A job that has not reported is pending while the frame is open, and missing once it is closed.
+// What a read says of a job without a value: pending while it can still come, and missing once the frame is closed.
 fn unreported_in(phase: Phase) -> Reading
     ensures { result ≡ unreported phase }
 {
-    match phase {
-        Phase::Idle => Reading::Missing,
-        Phase::Open => Reading::Pending,
-        Phase::Closed => Reading::Missing,
+    if phase == Phase::Open {
+        Reading::Pending
+    } else {
+        Reading::Missing
     }
 }
 
@@ -87,30 +77,20 @@ fn reading_of(phase: Phase, s: Standing) -> Reading
     match s {
         Standing::Held(x) => Reading::Fresh(x),
         Standing::Late => Reading::Late,
-        Standing::Waiting => unreported_in(phase),
-        Standing::Out => unreported_in(phase),
+        Standing::Waiting | Standing::Out => unreported_in(phase),
     }
 }
 
 // What is known of a job, in the open frame or the last one.
-pub fn read(f: Frame, id: u8) -> Answer
+#[tactic(auto, using(frame_record::proofs::Laws::begun_fits, frame_record::proofs::Laws::where_below), unfolding(crate::specs::Calls::read_of))]
+pub fn read(f: Frame, id: u8) -> Result<Answer, Refusal>
     ensures { result ≡ read_of f id }
 {
-    if !f.is_in(false, true, true) {
-        return Answer::Refused(Refusal::Phase);
+    if !f.has_begun() {
+        return Err(Refusal::Phase);
     }
-    let found = f.position_of(id);
-    match found {
-        Some(i) => {
-            let e = f.entries[i];
-            let phase = f.phase;
-            let s = e.standing;
-            return Answer::Read(reading_of(phase, s));
-        }
-        None => {
-            return Answer::Refused(Refusal::Who);
-        }
-    }
+    let at = f.position_of(id).ok_or(Refusal::Who)?;
+    Ok(Answer::Read(reading_of(f.phase, f.entries[at].standing)))
 }
 
 // Every call but begin.
@@ -118,10 +98,7 @@ pub fn step(f: Frame, e: Event) -> Called
     ensures { result ≡ event_step f e }
 {
     match e {
-        Event::Next => {
-            let answer = panel_job(f);
-            asked(f, answer)
-        }
+        Event::Next => asked(f, panel_job(f)),
         Event::SpanEnd { id, time, value } => span_end(f, id, time, value),
         Event::Return {
             number,
@@ -130,9 +107,6 @@ pub fn step(f: Frame, e: Event) -> Called
             value,
         } => give_back(f, number, id, time, value),
         Event::Close(time) => close(f, time),
-        Event::Read(id) => {
-            let answer = read(f, id);
-            asked(f, answer)
-        }
+        Event::Read(id) => asked(f, read(f, id)),
     }
 }

@@ -7,9 +7,10 @@ ghost use Rattle.frame_begin.specs.Begin.{begin_step};
 ghost use Rattle.frame_calls.specs.Calls.{event_step};
 
 use frame_record::{Answer, Event, Frame};
+use records::refusal::Refusal;
 
 // Opens a frame with a table and a plan for it.
-pub fn begin_in(f: &mut Frame, table: &[u8], plan: &[u8], number: u32) -> Answer
+pub fn begin_in(f: &mut Frame, table: &[u8], plan: &[u8], number: u32) -> Result<Answer, Refusal>
     ensures { record { answer = result; frame = f.new } ≡ begin_step f.old table.now plan.now number }
 {
     let s = frame_begin::begin(*f, table, plan, number);
@@ -18,7 +19,7 @@ pub fn begin_in(f: &mut Frame, table: &[u8], plan: &[u8], number: u32) -> Answer
 }
 
 // Every other call.
-pub fn call_in(f: &mut Frame, e: Event) -> Answer
+pub fn call_in(f: &mut Frame, e: Event) -> Result<Answer, Refusal>
     ensures { record { answer = result; frame = f.new } ≡ event_step f.old e }
 {
     let s = frame_calls::step(*f, e);

@@ -1,6 +1,6 @@
 -- docs/REPLAY.md, 'The log in bytes': "Numbers are low byte first; a value is the four bytes of its 32-bit float pattern." The record at the front of
 -- a log, and the call that it is. Assumes nothing.
-use Rattle.std.specs.Prelude.{ℕ, ◌+◌, cond, List, length, get_or, take, drop, leb, eqb, Float}
+use Rattle.std.specs.Prelude.{ℕ, ◌+◌, cond, List, length, get_or, take, drop, leb, eqb, Float, Option, None, Some}
 use Rattle.std.specs.Float.{nan, binary32}
 use Rattle.std.specs.Float.Ieee.{nan_bits, of_bits}
 use Rattle.octets.specs.Numbers.{two_at, four_at}
@@ -14,20 +14,17 @@ use Rattle.frame_log.specs.declared.EventKind.{EventKind}
 use Rattle.frame_log.specs.declared.EventKind.TheVariants as K
 use Rattle.frame_log.specs.declared.CallKind.{CallKind}
 use Rattle.frame_log.specs.declared.CallKind.TheVariants.{Begin, Other}
-use Rattle.frame_log.specs.declared.KindRead.{KindRead}
-use Rattle.frame_log.specs.declared.KindRead.TheVariants.{Call, Unknown}
-use Rattle.frame_log.specs.declared.RecordRead.{RecordRead}
-use Rattle.frame_log.specs.declared.RecordRead.TheVariants.{Whole, Stop}
+use Rattle.frame_log.specs.declared.Whole.{Whole}
 
 -- The table of kinds, line by line.
-unfoldable pub kind_of : ℕ → KindRead
+unfoldable pub kind_of : ℕ → Option CallKind
 kind_of b =
-    cond (eqb b 0x40) (Call Begin)
-    (cond (eqb b 0x41) (Call (Other K.Next))
-    (cond (eqb b 0x42) (Call (Other K.Span))
-    (cond (eqb b 0x43) (Call (Other K.Return))
-    (cond (eqb b 0x44) (Call (Other K.Close))
-    (cond (eqb b 0x45) (Call (Other K.Read)) Unknown)))))
+    cond (eqb b 0x40) (Some Begin)
+    (cond (eqb b 0x41) (Some (Other K.Next))
+    (cond (eqb b 0x42) (Some (Other K.Span))
+    (cond (eqb b 0x43) (Some (Other K.Return))
+    (cond (eqb b 0x44) (Some (Other K.Close))
+    (cond (eqb b 0x45) (Some (Other K.Read)) None)))))
 
 -- how long a record is: its kind byte and the body, of which a begin's has the lengths of its table and its plan
 abbrev pub event_size : EventKind → ℕ
@@ -42,14 +39,14 @@ record_size Begin s = 9 + two_at s 5 + two_at s 7
 record_size (Other k) s = event_size k
 
 -- the record at the front of s; "an unknown kind or a cut body ends the run"
-abbrev pub fitting : CallKind → ℕ → ℕ → RecordRead
-fitting k size have = cond (leb size have) (Whole k size) Stop
+abbrev pub fitting : CallKind → ℕ → ℕ → Option Whole
+fitting k size have = cond (leb size have) (Some (record { kind = k; size = size })) None
 
-abbrev pub read_as : List ℕ → KindRead → RecordRead
-read_as s (Call k) = fitting k (record_size k s) (length s)
-read_as s Unknown = Stop
+abbrev pub read_as : List ℕ → Option CallKind → Option Whole
+read_as s (Some k) = fitting k (record_size k s) (length s)
+read_as s None = None
 
-unfoldable pub record_at : List ℕ → RecordRead
+unfoldable pub record_at : List ℕ → Option Whole
 record_at s = read_as s (kind_of (get_or s 0 0))
 
 -- there is one nan, whatever its pattern

@@ -3,7 +3,7 @@
 #![tactic(auto)]
 
 ghost use Rattle.std.specs.Prelude.{◌≡◌, length};
-ghost use Rattle.frame_log.specs.Log.{kind_of, event_size, record_size, fitting, read_as, record_at, value_of, event_of, begin_of, call_of};
+ghost use Rattle.frame_log.specs.Log.{kind_of, event_size, record_size, fitting, record_at, value_of, event_of, begin_of, call_of};
 
 use frame_record::{Called, Event, Frame};
 
@@ -23,94 +23,72 @@ pub enum CallKind {
     Other(EventKind),
 }
 
+// A whole record at the front of a log.
 #[derive(Clone, Copy)]
-pub enum KindRead {
-    Call(CallKind),
-    Unknown,
+pub struct Whole {
+    pub kind: CallKind,
+    pub size: usize,
 }
 
-// The record at the front of a log, by its kind and its length; or the run stops there.
-#[derive(Clone, Copy)]
-pub enum RecordRead {
-    Whole(CallKind, usize),
-    Stop,
-}
-
-// The kinds, stated once.
-fn kind_of(b: u8) -> KindRead
+// The kind of a record by its first byte, stated once.
+#[tactic(auto, unfolding(crate::specs::Log::kind_of))]
+fn kind_of(b: u8) -> Option<CallKind>
     ensures { result ≡ kind_of b }
 {
     match b {
-        0x40 => KindRead::Call(CallKind::Begin),
-        0x41 => KindRead::Call(CallKind::Other(EventKind::Next)),
-        0x42 => KindRead::Call(CallKind::Other(EventKind::Span)),
-        0x43 => KindRead::Call(CallKind::Other(EventKind::Return)),
-        0x44 => KindRead::Call(CallKind::Other(EventKind::Close)),
-        0x45 => KindRead::Call(CallKind::Other(EventKind::Read)),
-        _ => KindRead::Unknown,
+        0x40 => Some(CallKind::Begin),
+        0x41 => Some(CallKind::Other(EventKind::Next)),
+        0x42 => Some(CallKind::Other(EventKind::Span)),
+        0x43 => Some(CallKind::Other(EventKind::Return)),
+        0x44 => Some(CallKind::Other(EventKind::Close)),
+        0x45 => Some(CallKind::Other(EventKind::Read)),
+        _ => None,
     }
 }
 
-fn event_size(kind: EventKind) -> usize
-    ensures { result ≡ event_size kind }
-{
-    match kind {
-        EventKind::Next => 1,
-        EventKind::Span => 8,
-        EventKind::Return => 12,
-        EventKind::Close => 3,
-        EventKind::Read => 2,
+impl EventKind {
+    // How long the record of a kind is.
+    fn size(self) -> usize
+        ensures { result ≡ event_size self }
+    {
+        match self {
+            EventKind::Next => 1,
+            EventKind::Span => 8,
+            EventKind::Return => 12,
+            EventKind::Close => 3,
+            EventKind::Read => 2,
+        }
     }
 }
 
-fn fitting(kind: CallKind, size: usize, have: usize) -> RecordRead
-    ensures { result ≡ fitting kind size have }
-{
-    if size <= have {
-        return RecordRead::Whole(kind, size);
-    }
-    RecordRead::Stop
-}
-
-// The record of a kind, where it is whole.
-fn read_as(s: &[u8], kind: CallKind) -> RecordRead
+// The record of a kind, where it is whole: a begin tells its own length.
+fn read_as(s: &[u8], kind: CallKind) -> Option<Whole>
     ensures { result ≡ fitting kind (record_size kind s.now) (length s.now) }
 {
-    match kind {
-        CallKind::Begin => {
-            if s.len() < 9 {
-                return RecordRead::Stop;
-            }
-            let table = octets::two_at(s, 5) as usize;
-            let plan = octets::two_at(s, 7) as usize;
-            fitting(CallKind::Begin, 9 + table + plan, s.len())
-        }
-        CallKind::Other(k) => fitting(CallKind::Other(k), event_size(k), s.len()),
-    }
+    let size = match kind {
+        CallKind::Begin if s.len() < 9 => return None,
+        CallKind::Begin => 9 + octets::two_at(s, 5) as usize + octets::two_at(s, 7) as usize,
+        CallKind::Other(k) => k.size(),
+    };
+    (size <= s.len()).then_some(Whole { kind, size })
 }
 
 // The record at the front of what is left of a log.
-pub fn record_at(s: &[u8]) -> RecordRead
+#[tactic(auto, unfolding(crate::specs::Log::record_at, crate::specs::Log::kind_of))]
+pub fn record_at(s: &[u8]) -> Option<Whole>
     ensures { result ≡ record_at s.now }
 {
-    if s.len() == 0 {
-        return RecordRead::Stop;
-    }
-    match kind_of(s[0]) {
-        KindRead::Call(kind) => read_as(s, kind),
-        KindRead::Unknown => RecordRead::Stop,
-    }
+    let kind = kind_of(*s.first()?)?;
+    read_as(s, kind)
 }
 
 // The f32 of a pattern; every pattern of a NaN is the one NaN, which the record refuses.
+#[tactic(auto, using(crate::proofs::Patterns::nan_value, crate::proofs::Patterns::number_pattern), unfolding(crate::specs::Log::value_of))]
 fn value_of(bits: u32) -> f32
     ensures { result ≡ value_of bits }
 {
-    if bits % 0x8000_0000 / 0x80_0000 == 255 {
-        if bits % 0x80_0000 == 0 {
-            return f32::from_bits(bits);
-        }
-        return 0.0 / 0.0;
+    if 0x7f80_0000 < bits % 0x8000_0000 {
+        return f32::NAN;
     }
     f32::from_bits(bits)
 }
@@ -145,9 +123,7 @@ fn begun(frame: Frame, s: &[u8]) -> Called
 {
     let end = 9 + octets::two_at(s, 5) as usize;
     let number = octets::four_at(s, 1);
-    let table = &s[9..end];
-    let plan = &s[end..];
-    frame_begin::begin(frame, table, plan, number)
+    frame_begin::begin(frame, &s[9..end], &s[end..], number)
 }
 
 // Makes the call of a whole record.

@@ -1,5 +1,6 @@
 -- "Begin: PHASE if open; the check's refusals; NUMBER (never from idle)", told of the turns before it: it is accepted exactly where no frame
 -- is open, the check passes and the number is above the last one begun. Assumes nothing.
+use Rattle.std.specs.Prelude.{Err, Ok}
 use Prim.Native.Nat.{ℕ}
 use native.Mathlib.Omega.{arith}
 use mathlib.Core.Path.{◌≡◌, refl, sym, ◌∙◌, ap}
@@ -11,8 +12,7 @@ use lib.Dec.{ltb}
 use Rattle.records.specs.declared.refusal.Refusal.{Refusal}
 use Rattle.records.specs.Refusals.{refusal_says}
 use Rattle.records.proofs.Refusals.{says_not_zero}
-use Rattle.judge.specs.declared.Checked.{Checked}
-use Rattle.judge.specs.declared.Checked.TheVariants as checked
+use Rattle.judge.specs.Check.{Checked}
 use Rattle.judge.specs.Check.{checked_says, check_plan}
 use Rattle.frame_record.specs.Answers.{Reply, says}
 use Rattle.frame_promises.specs.Call.{begin}
@@ -75,16 +75,16 @@ open_says (opened b) e table plan n = refl
 open_says (closed b) e table plan n = absurd (false_true e)
 
 passing : (k : Checked) (up : Bool) → (last : ℕ) × (busy : ℕ) × (checked_says k ≡ 0 ∷ last ∷ busy ∷ []) → begins k up ≡ cond up done (refuse 13)
-passing (checked.Passes last busy) up w = refl
-passing (checked.Fails r) up w = absurd (says_not_zero r (w.0 ∷ w.1 ∷ []) w.2)
+passing (Ok run) up w = refl
+passing (Err r) up w = absurd (says_not_zero r (w.0 ∷ w.1 ∷ []) w.2)
 
 failing : (k : Checked) (up : Bool) (r : Refusal) → checked_says k ≡ refusal_says r → begins k up ≡ says (refusal_says r)
-failing (checked.Passes last busy) up r e = absurd (says_not_zero r (last ∷ busy ∷ []) (sym e))
-failing (checked.Fails q) up r e = ap says e
+failing (Ok run) up r e = absurd (says_not_zero r (run.last ∷ run.busy ∷ []) (sym e))
+failing (Err q) up r e = ap says e
 
 passed_then : (k : Checked) (up : Bool) → is_accepted (begins k up) ≡ true → ((last : ℕ) × (busy : ℕ) × (checked_says k ≡ 0 ∷ last ∷ busy ∷ [])) × (up ≡ true)
-passed_then (checked.Passes last busy) up a = ((last, busy, refl), (refused_else up _ _ refl a).0)
-passed_then (checked.Fails r) up a = absurd (refused_not r a)
+passed_then (Ok run) up a = ((run.last, run.busy, refl), (refused_else up _ _ refl a).0)
+passed_then (Err r) up a = absurd (refused_not r a)
 
 -- ---- the promises
 

@@ -1,6 +1,6 @@
 -- One principle for the runner's calls: what holds where a call is refused, where it only asks, where a span has ended, where a job came back,
 -- where the frame was closed and where one was begun, each with what is known there, holds of every call. Assumes nothing.
-use Rattle.std.specs.Prelude.{Option, None, Some}
+use Rattle.std.specs.Prelude.{Option, None, Some, Result, Err, Ok}
 use Prim.Native.Nat.{ℕ, ◌+◌, ◌<◌}
 use native.Mathlib.Omega.{arith}
 use mathlib.Core.Path.{◌≡◌, refl}
@@ -17,8 +17,7 @@ use Rattle.table.specs.Tables.{JobTable, read_table}
 use Rattle.table.proofs.Accepted.{accepted_good}
 use Rattle.plan.specs.declared.Step as plan
 use Rattle.plan.specs.Plans.{read_plan}
-use Rattle.judge.specs.declared.Checked.{Checked}
-use Rattle.judge.specs.declared.Checked.TheVariants.{Passes, Fails}
+use Rattle.judge.specs.Check.{Checked, pass}
 use Rattle.judge.specs.Check.{after_plan}
 use Rattle.frame_record.specs.Finite.{finite?}
 use Rattle.frame_record.specs.Sound.{none, entry_at, entry_id, open?, ready?}
@@ -44,7 +43,7 @@ use Rattle.frame_begin.proofs.Passed.{PlanFits, passed}
 module _ (f : Frame) (Q : Called → Type 0) where
   pub record Cases : Type 0 where
     pub refuses : (r : Refusal) → Q (refused r f)
-    pub asks : (a : Answer) → Q (asked f a)
+    pub asks : (a : Result Answer Refusal) → Q (asked f a)
     -- the span of the job on the panel ends: it is out; it has its value, or is late
     pub goes_out :
         open? f ≡ true → f.next < f.count → (panel_entry f).away ≡ true →
@@ -101,10 +100,10 @@ module _ (f : Frame) (Q : Called → Type 0) where
         (λ _. k.refuses R.Phase)
 
     checked : (n : ℕ) (s : List ℕ) (t : JobTable) (c : Checked) →
-        ((last busy : ℕ) → c ≡ Passes last busy → PlanFits t (steps_in (read_plan s))) → Q (begin_checked f n (begun n t (steps_in (read_plan s))) c)
-    checked n s t (Passes last busy) p =
-        cond_all Q (may_open f n) (λ _. k.begins n t (steps_in (read_plan s)) (p last busy refl)) (λ _. k.refuses R.Number)
-    checked n s t (Fails r) p = k.refuses r
+        ((last busy : ℕ) → c ≡ pass last busy → PlanFits t (steps_in (read_plan s))) → Q (begin_checked f n (begun n t (steps_in (read_plan s))) c)
+    checked n s t (Ok run) p =
+        cond_all Q (may_open f n) (λ _. k.begins n t (steps_in (read_plan s)) (p run.last run.busy refl)) (λ _. k.refuses R.Number)
+    checked n s t (Err r) p = k.refuses r
 
     begin_read_lem : (n : ℕ) (table s : List ℕ) (o : Outcome JobTable) → read_table table ≡ o → Q (begin_read f n s o)
     begin_read_lem n table s (accepted t) e = checked n s t (after_plan t (read_plan s)) (passed t (accepted_good table t e) s)

@@ -1,4 +1,5 @@
 -- Begun numbers only rise: in every sequence of calls from idle the number of each accepted begin is above those before. Assumes nothing.
+use Rattle.std.specs.Prelude.{Err, Ok}
 use Prim.Native.Nat.{ℕ, ◌<◌}
 use native.Mathlib.Omega.{arith}
 use mathlib.Core.Path.{◌≡◌, refl, sym, ap}
@@ -12,8 +13,7 @@ use Rattle.model.proofs.Lists.{all_map}
 use Rattle.table.specs.Tables.{read_table}
 use Rattle.plan.specs.declared.Step as plan
 use Rattle.plan.specs.Plans.{read_plan}
-use Rattle.judge.specs.declared.Checked.{Checked}
-use Rattle.judge.specs.declared.Checked.TheVariants.{Passes, Fails}
+use Rattle.judge.specs.Check.{Checked}
 use Rattle.judge.specs.Check.{check_plan}
 use Rattle.frame_promises.specs.Call.{Call, begin, event}
 use Rattle.frame_record.specs.declared.Event.{Event}
@@ -55,8 +55,8 @@ event_above (opened b) e true n a = happens_above b e n a
 event_above (closed b) e true n a = a
 
 passes_above : (k : Checked) (above : Bool) → is_accepted (begins k above) ≡ true → above ≡ true
-passes_above (Passes last busy) above a = (refused_else above _ _ refl a).0
-passes_above (Fails r) above a = absurd (refused_not r a)
+passes_above (Ok run) above a = (refused_else above _ _ refl a).0
+passes_above (Err r) above a = absurd (refused_not r a)
 
 -- an accepted begin: its number is above, and is the last one then
 module _ (table s : List ℕ) (n : ℕ) where

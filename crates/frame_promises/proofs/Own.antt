@@ -1,5 +1,6 @@
 -- Demand 3: "Run such a frame, with finite values and its events and no others reported under its number, in time order, stays in plan
 -- order, an answer after its job's stay, all before the close, and each job ends with its own value." Assumes nothing.
+use Rattle.std.specs.Prelude.{Err, Ok}
 use Prim.Native.Nat.{ℕ, zero, suc, ◌+◌, ◌≤◌, ◌<◌}
 use native.Mathlib.Omega.{arith}
 use mathlib.Core.Path.{◌≡◌, refl, sym, ◌∙◌, ap, subst}
@@ -22,8 +23,7 @@ use Rattle.table.proofs.Accepted.{accepted_good}
 use Rattle.records.proofs.Refusals.{says_not_zero}
 use Rattle.plan.specs.declared.Step.{Step}
 use Rattle.plan.specs.Plans.{no_step, read_plan, step_of, steps_for}
-use Rattle.judge.specs.declared.Checked.{Checked}
-use Rattle.judge.specs.declared.Checked.TheVariants as checked
+use Rattle.judge.specs.Check.{Checked, pass}
 use Rattle.judge.specs.Check.{checked_says, after_plan, check_plan}
 use Rattle.judge.proofs.Jobs.{perm_members}
 use Rattle.faults.proofs.Tables.{table_read_lem}
@@ -52,9 +52,9 @@ member_at (mathlib.Core.List.Memᴰ.tail m) = let r = member_at m in (suc r.0, o
 
 module _ {table plan : List ℕ} {t : JobTable} {cs : List Chosen} (w : PassingPlan table plan t cs) (last busy_total : ℕ)
     (passes : checked_says (check_plan table plan) ≡ 0 ∷ last ∷ busy_total ∷ []) where
-  is_pass : (k : Checked) → checked_says k ≡ 0 ∷ last ∷ busy_total ∷ [] → k ≡ checked.Passes last busy_total
-  is_pass (checked.Passes l b) e = let x : l ≡ last = cc in let y : b ≡ busy_total = cc in rw (x, y)
-  is_pass (checked.Fails r) e = absurd (says_not_zero r (last ∷ busy_total ∷ []) e)
+  is_pass : (k : Checked) → checked_says k ≡ 0 ∷ last ∷ busy_total ∷ [] → k ≡ pass last busy_total
+  is_pass (Ok run) e = let x : run.last ≡ last = cc in let y : run.busy ≡ busy_total = cc in rw (← x, ← y) refl
+  is_pass (Err r) e = absurd (says_not_zero r (last ∷ busy_total ∷ []) e)
 
   read_table_lem : read_table table ≡ accepted t
   read_table_lem = table_read_lem table (accepted t) w.is_table
@@ -74,7 +74,7 @@ module _ {table plan : List ℕ} {t : JobTable} {cs : List Chosen} (w : PassingP
       said (inl e) = e
       said (inr e) = clash (cc (sym passes ∙ e))
 
-  after_plan_lem : after_plan t (read_plan plan) ≡ checked.Passes last busy_total
+  after_plan_lem : after_plan t (read_plan plan) ≡ pass last busy_total
   unfolding check_plan
   after_plan_lem = rw read_table_lem at (is_pass (check_plan table plan) passes)
 

@@ -1,11 +1,13 @@
 -- What a call leaves of a record, over the functions' own contracts: "No refusal .. alters the frame's record"; "every record reached by calls from
 -- idle is sound, and an unsound one answers PHASE to every call and stays as found". And that each function for one call is that call. Assumes nothing.
+use Rattle.std.specs.Prelude.{Result}
 use Prim.Native.Nat.{◌≤◌}
 use mathlib.Core.Path.{◌≡◌, refl, sym, ap, ◌∙◌, subst}
 use mathlib.Core.Logic.{◌↔◌}
 use mathlib.Core.Bool.{Bool, true, false}
 use mathlib.Core.List.{List, [], ◌∷◌}
 use lib.ListN.{get_or}
+use Rattle.records.specs.declared.refusal.Refusal.{Refusal}
 use Rattle.frame_record.specs.Sound.{sound?}
 use Rattle.frame_record.specs.Listed.{SoundFrame}
 use Rattle.frame_record.specs.Answers.{answer_says, says}
@@ -64,7 +66,7 @@ lent_left f (begin table plan n) s allows = refused_left f (begin table plan n) 
 lent_left f (event e) s allows = refused_left f (event e) s allows
 
 -- the functions for single calls answer what `frame_calls::step` answers to that event, and leave the record that it leaves
-pub ask_is_step : (f : Frame) (e : Event) (r : Answer) → AskAllows f e r → Allows f (event e) (record { answer = r; frame = f })
+pub ask_is_step : (f : Frame) (e : Event) (r : Result Answer Refusal) → AskAllows f e r → Allows f (event e) (record { answer = r; frame = f })
 ask_is_step f E.Next r allows = ap (asked f) allows
 ask_is_step f (E.Read id) r allows = ap (asked f) allows
 ask_is_step f (E.SpanEnd id t v) r allows = absurd allows

@@ -1,5 +1,6 @@
 -- Document 01: "No refusal .. alters the frame's record", and an unsound record "answers PHASE to every call and stays as found". Of every
 -- call and every record. Assumes nothing.
+use Rattle.std.specs.Prelude.{Result, Ok, Err}
 use Prim.Native.Nat.{◌≤◌}
 use native.Mathlib.Omega.{arith}
 use mathlib.Core.Path.{◌≡◌, refl, ap}
@@ -17,16 +18,15 @@ use Rattle.frame_begin.specs.Begin.{begin_step}
 use Rattle.frame_promises.specs.Call.{Call, begin, event, called_of}
 use Rattle.frame_record.specs.declared.Frame.{Frame}
 use Rattle.frame_record.specs.declared.Answer.{Answer}
-use Rattle.frame_record.specs.declared.Answer.TheVariants.{Done, Panel, Rest, Read, Refused}
 use Rattle.frame_record.specs.declared.Event.{Event}
 use Rattle.frame_record.specs.declared.Event.TheVariants as E
 use Rattle.frame_record.specs.declared.Called.{Called}
 use Rattle.frame_promises.proofs.Cases.{every_call}
-use Rattle.frame_record.proofs.Says.{zero_read}
+use Rattle.frame_record.proofs.Says.{zero_accepted}
 
 module _ (f : Frame) where
   abbrev Leaves : Called → Type 0
-  Leaves s = (r : Refusal) → s.answer ≡ Refused r → s.frame ≡ f
+  Leaves s = (r : Refusal) → s.answer ≡ Err r → s.frame ≡ f
 
   does : (g : Frame) → Leaves (done g)
   does g r e = clash (cc)
@@ -44,12 +44,9 @@ module _ (f : Frame) where
   })
 
   module _ (c : Call) where
-    leaves : (a : Answer) → (called_of c f).answer ≡ a → 1 ≤ get_or (answer_says a).numbers 0 0 → (called_of c f).frame ≡ f
-    leaves Done e h = absurd (omega arith)
-    leaves (Panel i b) e h = absurd (omega arith)
-    leaves Rest e h = absurd (omega arith)
-    leaves (Read r) e h = absurd (omega (arith, zero_read r))
-    leaves (Refused r) e h = refused_leaves c r e
+    leaves : (a : Result Answer Refusal) → (called_of c f).answer ≡ a → 1 ≤ get_or (answer_says a).numbers 0 0 → (called_of c f).frame ≡ f
+    leaves (Ok a) e h = absurd (omega (arith, zero_accepted a))
+    leaves (Err r) e h = refused_leaves c r e
 
     -- and so one that is answered by a number above 0
     pub number_leaves : 1 ≤ get_or (answer_says (called_of c f).answer).numbers 0 0 → (called_of c f).frame ≡ f

@@ -4,9 +4,9 @@ use Prim.Native.Nat.{ℕ, ◌+◌, ◌<◌}
 use native.Mathlib.Omega.{arith}
 use native.Mathlib.Numerals.{add-one}
 use mathlib.Core.Path.{◌≡◌, refl, sym, ◌∙◌, ap, subst}
-use mathlib.Core.Bool.{Bool, true, false, cond, ◌&&◌}
+use mathlib.Core.Bool.{Bool, true, false, cond, not, ◌&&◌}
 use mathlib.Core.List.{List, [], ◌∷◌}
-use Rattle.std.specs.Prelude.{Option, Some, None}
+use Rattle.std.specs.Prelude.{Option, Some, None, Result, Err, Ok}
 use borrow.Author.Tests.{ltb-true, ltb-false}
 use lib.ListN.{get_or, drop}
 use lib.Seq.{drop-cons}
@@ -22,8 +22,7 @@ use Rattle.table.specs.Tables.{JobTable, read_table}
 use Rattle.table.proofs.Accepted.{accepted_good}
 use Rattle.plan.specs.declared.Step as plan
 use Rattle.plan.specs.Plans.{no_step, read_plan}
-use Rattle.judge.specs.declared.Checked.{Checked}
-use Rattle.judge.specs.declared.Checked.TheVariants.{Passes, Fails}
+use Rattle.judge.specs.Check.{Checked, pass}
 use Rattle.judge.specs.Check.{after_plan, after_table, check_plan}
 use Rattle.frame_record.specs.Finite.{finite?}
 use Rattle.frame_record.specs.Sound as S
@@ -74,15 +73,15 @@ module _ (c : Call) (h : History) where
 
 module _ (f : Frame) (fine : Fine f) where
   -- the tests of a sound record go by its phase
-  open_is : (p : Phase) → f.phase ≡ p → open? f ≡ S.phase_in false true false p
+  open_is : (p : Phase) → f.phase ≡ p → open? f ≡ S.is_open p
   unfolding open?
   open_is p e = rw (fine.sound, e)
 
-  begun_is : (p : Phase) → f.phase ≡ p → begun? f ≡ S.phase_in false true true p
+  begun_is : (p : Phase) → f.phase ≡ p → begun? f ≡ not (S.is_idle p)
   unfolding begun?
   begun_is p e = rw (fine.sound, e)
 
-  ready_is : (p : Phase) → f.phase ≡ p → ready? f ≡ S.phase_in true false true p
+  ready_is : (p : Phase) → f.phase ≡ p → ready? f ≡ not (S.is_open p)
   unfolding ready?
   ready_is p e = rw (fine.sound, e)
 
@@ -100,17 +99,17 @@ module _ (f : Frame) (fine : Fine f) where
 
   -- ---- a read
 
-  module _ (b : Last) (a : Agrees f b) (unreported : Reply) (says_so : answer_says (Read (calls.unreported f.phase)) ≡ unreported) where
+  module _ (b : Last) (a : Agrees f b) (unreported : Reply) (says_so : answer_says (Ok (Read (calls.unreported f.phase))) ≡ unreported) where
     heard :
         (p : Phase) (x : Report) (w : Bool) →
-        answer_says (Read (reading_of p (cond w (stands.Held (record { value = x.value; frame = b.number })) stands.Late))) ≡
+        answer_says (Ok (Read (reading_of p (cond w (stands.Held (record { value = x.value; frame = b.number })) stands.Late)))) ≡
         cond w (record { numbers = 0 ∷ 0 ∷ b.number ∷ []; float = Some x.value }) (says (0 ∷ 2 ∷ []))
     heard p x true = refl
     heard p x false = refl
 
     reading_is :
         (out : Bool) (o : Option Report) (s : Standing) → Stood f.number f.deadline out o s →
-        answer_says (Read (reading_of f.phase s)) ≡ reading b unreported o
+        answer_says (Ok (Read (reading_of f.phase s))) ≡ reading b unreported o
     reading_is out None stands.Waiting w = says_so
     reading_is out None stands.Out w = says_so
     reading_is out None (stands.Held x) w = absurd w
@@ -151,7 +150,7 @@ module _ (f : Frame) (fine : Fine f) where
     unchanged c e r true q = rw e (is, a)
     unchanged c e r false q = (is, a)
 
-    asked : (g : Answer) (r : Reply) → answer_says g ≡ r → (e : Event) → accepts H (event e) ≡ H → Fits (event e) H (calls.asked f g) r
+    asked : (g : Result Answer Refusal) (r : Reply) → answer_says g ≡ r → (e : Event) → accepts H (event e) ≡ H → Fits (event e) H (calls.asked f g) r
     asked g r said e stays = (said, unchanged (event e) stays r (is_accepted r) refl)
 
     -- what is to come, by whether a job is on the panel
@@ -167,7 +166,7 @@ module _ (f : Frame) (fine : Fine f) where
       where
         at :
             (w : Bool) → ltb f.next f.count ≡ w →
-            answer_says (cond w (Panel (panel_entry f).id (panel_entry f).away) Rest) ≡ nexts b.to_come
+            answer_says (cond w (Ok (Panel (panel_entry f).id (panel_entry f).away)) (Ok Rest)) ≡ nexts b.to_come
         at true e = let h : f.next < f.count = ltb-true _ _ e in rw (now h, a.steps f.next h, a.choices f.next h)
         at false e = rw (over e)
 
@@ -365,7 +364,7 @@ module _ (f : Frame) (fine : Fine f) where
     -- one that is accepted opens the frame of its bytes
     opened_by :
         (t : JobTable) → read_table table ≡ accepted t → (p : Outcome (List plan.Step)) → read_plan s ≡ p → (last busy : ℕ) →
-        after_plan t p ≡ Passes last busy → Tells (begun number t (steps_in p)) (opens number (accepted t) p h)
+        after_plan t p ≡ pass last busy → Tells (begun number t (steps_in p)) (opens number (accepted t) p h)
     unfolding begun
     opened_by t e (accepted xs) q last busy ok =
         let pass = passed t (accepted_good table t e) s last busy (ap (after_plan t) q ∙ ok) in
@@ -373,16 +372,16 @@ module _ (f : Frame) (fine : Fine f) where
     opened_by t e (outcome.refused r) q last busy ok = clash (cc)
 
     begun_fits :
-        (t : JobTable) → read_table table ≡ accepted t → (last busy : ℕ) → after_plan t (read_plan s) ≡ Passes last busy →
+        (t : JobTable) → read_table table ≡ accepted t → (last busy : ℕ) → after_plan t (read_plan s) ≡ pass last busy →
         Fits N h (answers.done (begun number t (steps_in (read_plan s)))) done
     begun_fits t e last busy ok = (refl, rw e (opened_by t e (read_plan s) refl last busy ok))
 
     checked_fits :
         (t : JobTable) → read_table table ≡ accepted t → (k : Checked) → after_plan t (read_plan s) ≡ k →
         Fits N h (begin_checked f number (begun number t (steps_in (read_plan s))) k) (begins k above)
-    checked_fits t e (Passes last busy) ok =
-        both N h (may_open f number) above may _ _ _ _ (λ _. begun_fits t e last busy ok) (λ _. refused_begin R.Number)
-    checked_fits t e (Fails r) ok = refused_begin r
+    checked_fits t e (Ok run) ok =
+        both N h (may_open f number) above may _ _ _ _ (λ _. begun_fits t e run.last run.busy ok) (λ _. refused_begin R.Number)
+    checked_fits t e (Err r) ok = refused_begin r
 
     read_fits : (p : Outcome JobTable) → read_table table ≡ p → Fits N h (begin_read f number s p) (begins (after_table s p) above)
     read_fits (accepted t) e = checked_fits t e (after_plan t (read_plan s)) refl

@@ -1,6 +1,6 @@
 -- Document 01, 'The frame runner', told of calls and answers alone: what the calls so far have come to, and what the next one is answered,
 -- in the document's numbers. No frame record is looked at: proofs/Told.antt has that the runner answers so. Assumes nothing.
-use Rattle.std.specs.Prelude.{ℕ, Bool, true, cond, List, [], ◌∷◌, get_or, leb, ltb, eqb, Float}
+use Rattle.std.specs.Prelude.{ℕ, Bool, true, cond, List, [], ◌∷◌, get_or, leb, ltb, eqb, Float, Err, Ok}
 use Rattle.std.specs.Prelude.{Option, None, Some}
 use Rattle.model.specs.declared.Job.{Job}
 use Rattle.records.specs.Records.{used}
@@ -9,8 +9,7 @@ use Rattle.table.specs.Tables.{JobTable, read_table}
 use Rattle.lookup.specs.Lookup.{job_of}
 use Rattle.plan.specs.declared.Step.{Step}
 use Rattle.plan.specs.Plans.{read_plan}
-use Rattle.judge.specs.declared.Checked.{Checked}
-use Rattle.judge.specs.declared.Checked.TheVariants.{Passes, Fails}
+use Rattle.judge.specs.Check.{Checked}
 use Rattle.judge.specs.Check.{check_plan}
 use Rattle.frame_record.specs.Finite.{finite?}
 use Rattle.frame_record.specs.Answers.{Reply, says}
@@ -57,8 +56,8 @@ refuse n = says (n ∷ [])
 
 -- "Begin: PHASE if open; the check's refusals; NUMBER (never from idle)"
 abbrev pub begins : Checked → Bool → Reply
-begins (Fails r) above = says (refusal_says r)
-begins (Passes last busy) above = cond above done (refuse 13)
+begins (Err r) above = says (refusal_says r)
+begins (Ok run) above = cond above done (refuse 13)
 
 -- "Next: PHASE unless open; else the job now on the panel with its choice, or none left."
 abbrev pub nexts : List Step → Reply

@@ -1,9 +1,10 @@
 -- "every sequence of calls from idle on one record that only the calls alter": each answer, with the record that goes to the next call, is one
 -- that the called function's own contract allows, as Rattle reads it of the source (`Reads.Learnt`). Assumes nothing.
-use Rattle.std.specs.Prelude.{◌≡◌, Bool, List, [], ◌∷◌}
+use Rattle.std.specs.Prelude.{◌≡◌, Bool, List, [], ◌∷◌, Result}
 use Rattle.faults.specs.Allows.{to}
 use Rattle.frame_record.specs.Answers.{answer_says}
 use Rattle.frame_promises.specs.Call.{Call, begin, event}
+use Rattle.records.specs.declared.refusal.Refusal.{Refusal}
 use Rattle.frame_record.specs.declared.Answer.{Answer}
 use Rattle.frame_record.specs.declared.Event.{Event}
 use Rattle.frame_record.specs.declared.Event.TheVariants as E
@@ -40,10 +41,10 @@ Reaches f (t ∷ ts) g = (s : Called) × Allows f t.call s × (t.said ≡ answer
 
 -- what `Frame::sound` may answer
 abbrev pub SoundAllows : Frame → Bool → Type 0
-SoundAllows f r = frame_record.Frame.sound.Reads.Learnt tt (f, tt) r (f, tt)
+SoundAllows f r = frame_record.Frame.sound.Reads.Learnt ([], tt) (to f, tt) r (to f, tt)
 
 -- what the functions for single calls may answer: those that only ask, and those that hand a record back
-abbrev pub AskAllows : Frame → Event → Answer → Type 0
+abbrev pub AskAllows : Frame → Event → Result Answer Refusal → Type 0
 AskAllows f E.Next r = frame_calls.panel_job.Reads.Learnt tt (f, tt) r (f, tt)
 AskAllows f (E.Read id) r = frame_calls.read.Reads.Learnt tt (f, (id, tt)) r (f, (id, tt))
 AskAllows f (E.SpanEnd id t v) r = ⊥

@@ -1,19 +1,18 @@
 -- Laws of the definitions that go position by position: a turn of each loop and its end; and what the tests of a record say.
 -- Assumes nothing.
 use Rattle.std.specs.Prelude.{Some}
-use mathlib.Core.Path.{◌≡◌, sym}
+use mathlib.Core.Path.{◌≡◌}
 use mathlib.Core.Logic.{inl, inr}
 use mathlib.Core.List.{List}
 use native.Mathlib.Nat.{eq-or-lt_of_le}
-use mathlib.Core.Bool.{Bool, true, false, ◌&&◌}
+use mathlib.Core.Bool.{true, not, ◌&&◌}
 use borrow.Author.Tests.{leb-true, ltb-true}
 use Prim.Native.Nat.{ℕ, zero, suc, ◌+◌, ◌-◌, ◌<◌, ◌≤◌}
 use native.Mathlib.Omega.{arith}
 use Rattle.model.proofs.Tests.{false_true, and_left, and_right}
 use Rattle.lookup.proofs.Lookup.{first_below}
 use Rattle.frame_record.specs.Sound.{none, position_at, entry_id, where_is, ok_order, ok_at, ok_from, ok_counts}
-use Rattle.frame_record.specs.Sound.{ok_deadline, ok_begun, ok_in, phase_in, is_open}
-use Rattle.frame_record.specs.Sound.{sound?, open?, begun?, ready?}
+use Rattle.frame_record.specs.Sound.{ok_deadline, ok_begun, ok_in, is_open, is_idle, sound?, open?, begun?}
 use Rattle.frame_record.specs.declared.Phase.{Phase}
 use Rattle.frame_record.specs.declared.Phase.TheVariants.{Idle, Open, Closed}
 use Rattle.frame_record.specs.declared.Frame.{Frame}
@@ -71,7 +70,7 @@ open_in Idle f e = absurd (false_true e)
 open_in Open f e = and_left _ _ e
 open_in Closed f e = absurd (false_true (and_right (ok_begun f) _ e))
 
-begun_in : (p : Phase) (f : Frame) → (ok_in p f && phase_in false true true p) ≡ true → ok_begun f ≡ true
+begun_in : (p : Phase) (f : Frame) → (ok_in p f && not (is_idle p)) ≡ true → ok_begun f ≡ true
 begun_in Idle f e = absurd (false_true e)
 begun_in Open f e = and_left _ _ e
 begun_in Closed f e = and_left _ _ e
@@ -83,20 +82,6 @@ open_begun f e = open_in f.phase f e
 pub begun_begun : (f : Frame) → begun? f ≡ true → ok_begun f ≡ true
 unfolding begun? sound?
 begun_begun f e = begun_in f.phase f e
-
--- what the test of a phase answers
-module _ (f : Frame) (r : Bool) where
-  pub is_open_lem : r ≡ (sound? f && phase_in false true false f.phase) → open? f ≡ r
-  unfolding open?
-  is_open_lem e = sym e
-
-  pub is_begun : r ≡ (sound? f && phase_in false true true f.phase) → begun? f ≡ r
-  unfolding begun?
-  is_begun e = sym e
-
-  pub is_ready : r ≡ (sound? f && phase_in true false true f.phase) → ready? f ≡ r
-  unfolding ready?
-  is_ready e = sym e
 
 -- its jobs have room, and the job on the panel has a position
 pub open_fits : (f : Frame) → open? f ≡ true → f.count ≤ 32

@@ -2,3 +2,4 @@ pub mod Laws
 pub mod Sound
 pub mod Marks
 pub mod Says
+pub mod Positions

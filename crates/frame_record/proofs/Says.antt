@@ -1,4 +1,5 @@
 -- Two answers that say the same are equal: an accepted call says 0 first, and no refusal does. Assumes nothing.
+use Rattle.std.specs.Prelude.{Result, Ok, Err}
 use Prim.Native.Nat.{ℕ}
 use native.Mathlib.Omega.{arith}
 use mathlib.Core.Path.{◌≡◌, refl, sym, ap}
@@ -8,12 +9,13 @@ use lib.ListN.{get_or}
 use Rattle.model.proofs.Lists.{clash}
 use Rattle.records.specs.declared.refusal.Refusal.{Refusal}
 use Rattle.records.proofs.Refusals.{says_injective, says_numbered}
-use Rattle.frame_record.specs.Answers.{Reply, reading_says, answer_says}
+use Rattle.records.specs.Refusals.{refusal_says}
+use Rattle.frame_record.specs.Answers.{Reply, says, reading_says, accepted_says, answer_says}
 use Rattle.frame_record.specs.declared.Sample.{Sample}
 use Rattle.frame_record.specs.declared.Reading.{Reading}
 use Rattle.frame_record.specs.declared.Reading.TheVariants as reads
 use Rattle.frame_record.specs.declared.Answer.{Answer}
-use Rattle.frame_record.specs.declared.Answer.TheVariants.{Done, Panel, Rest, Read, Refused}
+use Rattle.frame_record.specs.declared.Answer.TheVariants.{Done, Panel, Rest, Read}
 
 abbrev numbers_of : Reply → List ℕ
 numbers_of s = s.numbers
@@ -25,8 +27,14 @@ zero_read reads.Pending = refl
 zero_read reads.Late = refl
 zero_read reads.Missing = refl
 
-not_refused : {P : Type 0} (a : Answer) → get_or (answer_says a).numbers 0 0 ≡ 0 → (r : Refusal) → answer_says a ≡ answer_says (Refused r) → P
-not_refused a z r e = absurd (omega (arith, z, says_numbered r, ap (λ (s : Reply). get_or s.numbers 0 0) e))
+pub zero_accepted : (a : Answer) → get_or (accepted_says a).numbers 0 0 ≡ 0
+zero_accepted Done = refl
+zero_accepted (Panel i b) = refl
+zero_accepted Rest = refl
+zero_accepted (Read r) = zero_read r
+
+not_refused : {P : Type 0} (a : Answer) → (r : Refusal) → accepted_says a ≡ says (refusal_says r) → P
+not_refused a r e = absurd (omega (arith, zero_accepted a, says_numbered r, ap (λ (s : Reply). get_or s.numbers 0 0) e))
 
 -- the second number tells the readings apart, and from the panel's answers by how many numbers there are
 same_away : (a b : Bool) → ◌≡◌ {A = ℕ} (cond a 1 0) (cond b 1 0) → a ≡ b
@@ -85,32 +93,26 @@ not_panel reads.Late id b e = clash (cc)
 not_panel reads.Missing id b e = clash (cc)
 
 -- two accepted answers
-told_same : (a b : Answer) → answer_says a ≡ answer_says b → (answer_says a).numbers ≡ (answer_says b).numbers → a ≡ b
-told_same Done Done e n = refl
-told_same Done (Panel k b) e n = clash (cc)
-told_same Done Rest e n = clash (cc)
-told_same Done (Read q) e n = not_done q (sym n)
-told_same Done (Refused r) e n = not_refused Done refl r e
-told_same (Panel i a) Done e n = clash (cc)
-told_same (Panel i a) (Panel k b) e n = panel_same i k a b n
-told_same (Panel i a) Rest e n = clash (cc)
-told_same (Panel i a) (Read q) e n = not_panel q i (cond a 1 0) (sym n)
-told_same (Panel i a) (Refused r) e n = not_refused (Panel i a) refl r e
-told_same Rest Done e n = clash (cc)
-told_same Rest (Panel k b) e n = clash (cc)
-told_same Rest Rest e n = refl
-told_same Rest (Read q) e n = not_rest q (sym n)
-told_same Rest (Refused r) e n = not_refused Rest refl r e
-told_same (Read r) Done e n = not_done r n
-told_same (Read r) (Panel k b) e n = not_panel r k (cond b 1 0) n
-told_same (Read r) Rest e n = not_rest r n
-told_same (Read r) (Read q) e n = ap Read (reading_says_injective r q e)
-told_same (Read r) (Refused q) e n = not_refused (Read r) (zero_read r) q e
-told_same (Refused r) Done e n = not_refused Done refl r (sym e)
-told_same (Refused r) (Panel k b) e n = not_refused (Panel k b) refl r (sym e)
-told_same (Refused r) Rest e n = not_refused Rest refl r (sym e)
-told_same (Refused r) (Read q) e n = not_refused (Read q) (zero_read q) r (sym e)
-told_same (Refused r) (Refused q) e n = ap Refused (says_injective r q n)
+accepted_same : (a b : Answer) → accepted_says a ≡ accepted_says b → (accepted_says a).numbers ≡ (accepted_says b).numbers → a ≡ b
+accepted_same Done Done e n = refl
+accepted_same Done (Panel k b) e n = clash (cc)
+accepted_same Done Rest e n = clash (cc)
+accepted_same Done (Read q) e n = not_done q (sym n)
+accepted_same (Panel i a) Done e n = clash (cc)
+accepted_same (Panel i a) (Panel k b) e n = panel_same i k a b n
+accepted_same (Panel i a) Rest e n = clash (cc)
+accepted_same (Panel i a) (Read q) e n = not_panel q i (cond a 1 0) (sym n)
+accepted_same Rest Done e n = clash (cc)
+accepted_same Rest (Panel k b) e n = clash (cc)
+accepted_same Rest Rest e n = refl
+accepted_same Rest (Read q) e n = not_rest q (sym n)
+accepted_same (Read r) Done e n = not_done r n
+accepted_same (Read r) (Panel k b) e n = not_panel r k (cond b 1 0) n
+accepted_same (Read r) Rest e n = not_rest r n
+accepted_same (Read r) (Read q) e n = ap Read (reading_says_injective r q e)
 
-pub answer_says_injective : (a b : Answer) → answer_says a ≡ answer_says b → a ≡ b
-answer_says_injective a b e = told_same a b e (ap numbers_of e)
+pub answer_says_injective : (a b : Result Answer Refusal) → answer_says a ≡ answer_says b → a ≡ b
+answer_says_injective (Ok a) (Ok b) e = ap Ok (accepted_same a b e (ap numbers_of e))
+answer_says_injective (Ok a) (Err r) e = not_refused a r e
+answer_says_injective (Err r) (Ok b) e = not_refused b r (sym e)
+answer_says_injective (Err r) (Err q) e = ap Err (says_injective r q (ap numbers_of e))

@@ -92,23 +92,22 @@ unfoldable pub sound? : Frame → Bool
 sound? f = ok_in f.phase f
 
 -- by the phase
-abbrev pub phase_in : Bool → Bool → Bool → Phase → Bool
-phase_in idle opened closed Idle = idle
-phase_in idle opened closed Open = opened
-phase_in idle opened closed Closed = closed
-
 abbrev pub is_open : Phase → Bool
-is_open p = phase_in false true false p
+is_open Idle = false
+is_open Open = true
+is_open Closed = false
 
 abbrev pub is_idle : Phase → Bool
-is_idle p = phase_in true false false p
+is_idle Idle = true
+is_idle Open = false
+is_idle Closed = false
 
 -- sound, and open; sound, and begun; sound, and not open
 unfoldable pub open? : Frame → Bool
 open? f = sound? f && is_open f.phase
 
 unfoldable pub begun? : Frame → Bool
-begun? f = sound? f && phase_in false true true f.phase
+begun? f = sound? f && not (is_idle f.phase)
 
 unfoldable pub ready? : Frame → Bool
-ready? f = sound? f && phase_in true false true f.phase
+ready? f = sound? f && not (is_open f.phase)

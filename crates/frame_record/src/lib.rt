@@ -2,17 +2,17 @@
 // An unsound record is refused PHASE by every call and stays as found.
 #![tactic(auto)]
 
-ghost use Rattle.std.specs.Prelude.{◌≡◌, ◌&&◌, ◌≤◌};
+ghost use Rattle.std.specs.Prelude.{◌≡◌, ◌≤◌};
 ghost use Rattle.records.specs.Limits.{most_jobs};
 ghost use Rattle.frame_record.specs.Finite.{finite?};
-ghost use Rattle.frame_record.specs.Sound.{where_is, ok_entry, ok_from, ok_begun, sound?, phase_in};
-ghost use Rattle.frame_record.specs.Answers.{idle, refused};
+ghost use Rattle.frame_record.specs.Sound.{where_is, ok_entry, ok_from, ok_begun, sound?, open?, begun?, ready?};
+ghost use Rattle.frame_record.specs.Answers.{idle, answered};
 
 use records::refusal::Refusal;
 use table::Table;
 
 // Before any frame, during one, after one.
-#[derive(Clone, Copy)]
+#[derive(Clone, Copy, PartialEq, Eq)]
 pub enum Phase {
     Idle,
     Open,
@@ -65,20 +65,19 @@ pub struct Frame {
     pub entries: [Entry; Table::MOST_JOBS],
 }
 
-// What a call is answered; specs/Answers.antt has the numbers that it says.
+// What an accepted call is answered; a refused one has its refusal. specs/Answers.antt has the numbers that both say.
 #[derive(Clone, Copy)]
 pub enum Answer {
     Done,
     Panel(u8, bool),
     Rest,
     Read(Reading),
-    Refused(Refusal),
 }
 
 // What a call gives: its answer, and the record afterwards.
 #[derive(Clone, Copy)]
 pub struct Called {
-    pub answer: Answer,
+    pub answer: Result<Answer, Refusal>,
     pub frame: Frame,
 }
 
@@ -105,40 +104,18 @@ pub enum Event {
 pub fn finite(x: f32) -> bool
     ensures { result ≡ finite? x }
 {
-    let top: f32 = 1.0 / 0.0;
-    if x < top { -top < x } else { false }
+    x.is_finite()
 }
 
 // What the k-th job of the plan may stand at, by whether the panel is past it.
 fn entry_ok(number: u32, passed: bool, e: Entry) -> bool
     ensures { result ≡ ok_entry number passed e }
 {
-    let s = e.standing;
-    match s {
-        Standing::Waiting => {
-            if passed {
-                return false;
-            }
-            return true;
-        }
-        Standing::Out => {
-            if passed {
-                return e.away;
-            }
-            return false;
-        }
-        Standing::Held(x) => {
-            if passed {
-                if x.frame == number {
-                    return finite(x.value);
-                }
-                return false;
-            }
-            return false;
-        }
-        Standing::Late => {
-            return passed;
-        }
+    match e.standing {
+        Standing::Waiting => !passed,
+        Standing::Out => passed && e.away,
+        Standing::Held(x) => passed && x.frame == number && finite(x.value),
+        Standing::Late => passed,
     }
 }
 
@@ -152,8 +129,6 @@ impl Frame {
             away: false,
             standing: Standing::Waiting,
         };
-        let entries = [none; Table::MOST_JOBS];
-        let order = [0; Table::MOST_JOBS];
         Frame {
             phase: Phase::Idle,
             number: 0,
@@ -161,115 +136,94 @@ impl Frame {
             deadline: 0,
             count: 0,
             next: 0,
-            order,
-            entries,
+            order: [0; Table::MOST_JOBS],
+            entries: [none; Table::MOST_JOBS],
         }
     }
 
-    // A refused call leaves the record as it was.
-    pub fn refuse(self, refusal: Refusal) -> Called
-        ensures { result ≡ refused refusal self }
+    // What a call gives that makes another record of this one, or refuses to: a refused call leaves the record as it was.
+    pub fn answered(self, made: Result<Frame, Refusal>) -> Called
+        ensures { result ≡ answered self made }
     {
-        Called {
-            answer: Answer::Refused(refusal),
-            frame: self,
+        match made {
+            Ok(frame) => Called {
+                answer: Ok(Answer::Done),
+                frame,
+            },
+            Err(refusal) => Called {
+                answer: Err(refusal),
+                frame: self,
+            },
         }
     }
 
     // Each job of the plan has a position of its own in the table, each job of the table an id of its own, and each stands where it may.
     // One pass: the flags tell the positions and the ids that have come.
-    fn positions_ok(self) -> bool
-        requires { self.count ≤ most_jobs }
-        ensures { result ≡ ok_from self 0 self.count }
+    fn positions_ok(&self) -> bool
+        requires { self.now.count ≤ most_jobs }
+        ensures { result ≡ ok_from self.now 0 self.now.count }
     {
-        let count = self.count;
         let mut positions = [false; Table::MOST_JOBS];
         let mut ids = [false; 256];
-        let mut k = 0;
-        while k < count {
+        for k in 0..self.count {
             let position = self.order[k];
-            if count <= position {
-                return false;
-            }
-            if positions[position] {
+            if self.count <= position || positions[position] {
                 return false;
             }
             positions[position] = true;
-            let own = self.entries[k];
-            let id = own.id as usize;
-            if ids[id] {
+            let id = self.entries[k].id as usize;
+            if ids[id] || !entry_ok(self.number, k < self.next, self.entries[position]) {
                 return false;
             }
             ids[id] = true;
-            let e = self.entries[position];
-            if !entry_ok(self.number, k < self.next, e) {
-                return false;
-            }
-            k += 1;
         }
         true
     }
 
     // What a sound record asks once a frame has begun: docs/ has the list.
-    fn ok_begun(self) -> bool
-        ensures { result ≡ ok_begun self }
+    fn ok_begun(&self) -> bool
+        ensures { result ≡ ok_begun self.now }
     {
-        if Table::MOST_JOBS < self.count {
-            return false;
-        }
-        if self.count < self.next {
-            return false;
-        }
-        if self.deadline < 1 {
-            return false;
-        }
-        if Table::LARGEST_TIME < self.deadline {
-            return false;
-        }
-        self.positions_ok()
+        self.count <= Table::MOST_JOBS
+            && self.next <= self.count
+            && 1 <= self.deadline
+            && self.deadline <= Table::LARGEST_TIME
+            && self.positions_ok()
     }
 
     // Whether the record is sound: the test that every call makes first.
-    pub fn sound(self) -> bool
-        ensures { result ≡ sound? self }
+    pub fn sound(&self) -> bool
+        ensures { result ≡ sound? self.now }
     {
-        let phase = self.phase;
-        match phase {
-            Phase::Idle => true,
-            Phase::Open => self.ok_begun(),
-            Phase::Closed => self.ok_begun(),
-        }
+        self.phase == Phase::Idle || self.ok_begun()
     }
 
-    // Sound, and in a phase in which a call is allowed: before the first frame, during one, after one.
-    pub fn is_in(self, before: bool, during: bool, after: bool) -> bool
-        ensures { result ≡ (sound? self && phase_in before during after self.phase) }
+    // Sound, and during a frame.
+    pub fn is_open(&self) -> bool
+        ensures { result ≡ open? self.now }
     {
-        if !self.sound() {
-            return false;
-        }
-        let phase = self.phase;
-        match phase {
-            Phase::Idle => before,
-            Phase::Open => during,
-            Phase::Closed => after,
-        }
+        self.phase == Phase::Open && self.sound()
+    }
+
+    // Sound, and during a frame or after one.
+    pub fn has_begun(&self) -> bool
+        ensures { result ≡ begun? self.now }
+    {
+        self.phase != Phase::Idle && self.sound()
+    }
+
+    // Sound, and before a frame or after one.
+    pub fn is_ready(&self) -> bool
+        ensures { result ≡ ready? self.now }
+    {
+        self.phase != Phase::Open && self.sound()
     }
 
     // Where the job of an id stands in the table.
-    pub fn position_of(self, id: u8) -> Option<usize>
-        requires { self.count ≤ most_jobs }
-        ensures { result ≡ where_is self id }
+    pub fn position_of(&self, id: u8) -> Option<usize>
+        requires { self.now.count ≤ most_jobs }
+        ensures { result ≡ where_is self.now id }
     {
-        let count = self.count;
-        let mut i = 0;
-        while i < count {
-            let e = self.entries[i];
-            if e.id == id {
-                return Some(i);
-            }
-            i += 1;
-        }
-        None
+        self.entries[..self.count].iter().position(|e| e.id == id)
     }
 }

@@ -1,6 +1,7 @@
 -- Document 01, 'The frame runner': the rules of a span's end and of a return, by cases and in the document's order.
 -- Assumes nothing.
-use Rattle.std.specs.Prelude.{ℕ, ◌+◌, Bool, true, false, cond, ◌&&◌, set, leb, ltb, eqb, Float, Option, None, Some}
+use Rattle.std.specs.Prelude.{ℕ, ◌+◌, Bool, true, false, cond, ◌&&◌, set, leb, ltb, eqb, Float, Option, None, Some, Result, Ok, Err}
+use Rattle.records.specs.declared.refusal.Refusal.{Refusal}
 use Rattle.records.specs.declared.refusal.Refusal.TheVariants as R
 use Rattle.frame_record.specs.Finite.{finite?}
 use Rattle.frame_record.specs.Sound.{entry_at, where_is, panel_position, panel_entry}
@@ -14,6 +15,10 @@ use Rattle.frame_record.specs.declared.Called.{Called}
 -- "gets its value if time <= D, else is late"
 abbrev pub judge : Float → ℕ → ℕ → ℕ → Standing
 judge v number time deadline = cond (leb time deadline) (Held (record { value = v; frame = number })) Late
+
+-- "VALUE", value not a number, or infinite
+abbrev pub judged : Float → ℕ → ℕ → ℕ → Result Standing Refusal
+judged v number time deadline = cond (finite? v) (Ok (judge v number time deadline)) (Err R.Value)
 
 -- the job at a position of the table stands at s from now on; the time and how far the plan is are set
 abbrev pub standing : Entry → Standing → Entry

@@ -4,100 +4,111 @@
 ghost use Rattle.std.specs.Prelude.{◌≡◌, ◌<◌};
 ghost use Rattle.records.specs.Limits.{most_jobs};
 ghost use Rattle.frame_record.specs.Sound.{position_at};
-ghost use Rattle.frame_record.specs.Answers.{done};
-ghost use Rattle.frame_reports.specs.Reports.{judge, moved, span_at, span_step, return_at, back_step};
+ghost use Rattle.frame_record.specs.Answers.{answered};
+ghost use Rattle.frame_reports.specs.Reports.{judged, moved, span_at, span_step, return_at, back_step};
 
-use frame_record::{Answer, Called, Entry, Frame, Sample, Standing, finite};
+use frame_record::{Called, Entry, Frame, Sample, Standing, finite};
 use records::refusal::Refusal;
 
-// What a value that comes at a time makes of its job.
-fn judged(value: f32, number: u32, time: u16, deadline: u16) -> Standing
-    ensures { result ≡ judge value number time deadline }
+// What a value that comes at a time makes of its job; one that is no number is refused.
+fn judged(value: f32, number: u32, time: u16, deadline: u16) -> Result<Standing, Refusal>
+    ensures { result ≡ judged value number time deadline }
 {
-    if time <= deadline {
-        Standing::Held(Sample {
-            value: value,
-            frame: number,
-        })
-    } else {
-        Standing::Late
+    if !finite(value) {
+        return Err(Refusal::Value);
     }
+    if time <= deadline {
+        return Ok(Standing::Held(Sample {
+            value,
+            frame: number,
+        }));
+    }
+    Ok(Standing::Late)
 }
 
-// An event is accepted: the job at a position of the table stands at s from now on.
-fn done_with(mut f: Frame, at: usize, time: u16, next: usize, s: Standing) -> Called
+// The job at a position of the table stands at s from now on.
+fn moved(mut f: Frame, at: usize, time: u16, next: usize, s: Standing) -> Frame
     requires { at < most_jobs }
-    ensures { result ≡ done (moved f at time next s) }
+    ensures { result ≡ moved f at time next s }
 {
     let old = f.entries[at];
-    f.entries[at] = Entry {
-        id: old.id,
-        away: old.away,
-        standing: s,
-    };
+    f.entries[at] = Entry { standing: s, ..old };
     f.clock = time;
     f.next = next;
-    Called {
-        answer: Answer::Done,
-        frame: f,
-    }
+    f
 }
 
 // The span of the job at a position ends: the job is out, or has its value.
-fn span_at(f: Frame, at: usize, time: u16, value: f32, away: bool) -> Called
+fn span_at(f: Frame, at: usize, time: u16, value: f32, away: bool) -> Result<Frame, Refusal>
     requires { (f.next < most_jobs) × (at < most_jobs) × (at ≡ position_at f.order f.next) }
-    ensures { result ≡ span_at f time value away }
+    ensures { answered f result ≡ span_at f time value away }
 {
     let next = f.next + 1;
     if away {
-        return done_with(f, at, time, next, Standing::Out);
+        return Ok(moved(f, at, time, next, Standing::Out));
     }
-    if finite(value) {
-        let s = judged(value, f.number, time, f.deadline);
-        return done_with(f, at, time, next, s);
+    let s = judged(value, f.number, time, f.deadline)?;
+    Ok(moved(f, at, time, next, s))
+}
+
+// The record once the job on the panel has ended its span.
+#[tactic(auto, using(frame_record::proofs::Laws::open_fits, frame_record::proofs::Laws::open_position), unfolding(crate::specs::Reports::span_step))]
+fn ended(f: Frame, id: u8, time: u16, value: f32) -> Result<Frame, Refusal>
+    ensures { answered f result ≡ span_step f id time value }
+{
+    if !f.is_open() {
+        return Err(Refusal::Phase);
     }
-    f.refuse(Refusal::Value)
+    if time < f.clock {
+        return Err(Refusal::Clock);
+    }
+    if f.count <= f.next {
+        return Err(Refusal::Who);
+    }
+    let at = f.order[f.next];
+    let e = f.entries[at];
+    if e.id != id {
+        return Err(Refusal::Who);
+    }
+    span_at(f, at, time, value, e.away)
 }
 
 // The job on the panel has ended its span: here, its value; away, it is now with its server.
 pub fn span_end(f: Frame, id: u8, time: u16, value: f32) -> Called
     ensures { result ≡ span_step f id time value }
 {
-    if !f.is_in(false, true, false) {
-        return f.refuse(Refusal::Phase);
-    }
-    if time < f.clock {
-        return f.refuse(Refusal::Clock);
-    }
-    let k = f.next;
-    if k < f.count {
-        let at = f.order[k];
-        let e = f.entries[at];
-        if e.id == id {
-            return span_at(f, at, time, value, e.away);
-        }
-        return f.refuse(Refusal::Who);
-    }
-    f.refuse(Refusal::Who)
+    f.answered(ended(f, id, time, value))
 }
 
 // A value comes back for the job at a position, which stands at s.
-fn back_at(f: Frame, at: usize, time: u16, value: f32, s: Standing) -> Called
+fn back_at(f: Frame, at: usize, time: u16, value: f32, s: Standing) -> Result<Frame, Refusal>
     requires { at < most_jobs }
-    ensures { result ≡ return_at f at time value s }
+    ensures { answered f result ≡ return_at f at time value s }
 {
-    match s {
-        Standing::Out => {
-            if finite(value) {
-                let t = judged(value, f.number, time, f.deadline);
-                return done_with(f, at, time, f.next, t);
-            }
-            f.refuse(Refusal::Value)
-        }
-        Standing::Waiting => f.refuse(Refusal::Who),
-        Standing::Held(_) => f.refuse(Refusal::Who),
-        Standing::Late => f.refuse(Refusal::Who),
+    let Standing::Out = s else {
+        return Err(Refusal::Who);
+    };
+    let t = judged(value, f.number, time, f.deadline)?;
+    Ok(moved(f, at, time, f.next, t))
+}
+
+// The record once a server has given a value back.
+#[tactic(auto, using(frame_record::proofs::Laws::open_fits, frame_record::proofs::Laws::where_below), unfolding(crate::specs::Reports::back_step))]
+fn given_back(f: Frame, number: u32, id: u8, time: u16, value: f32) -> Result<Frame, Refusal>
+    ensures { answered f result ≡ back_step f number id time value }
+{
+    if !f.is_open() {
+        return Err(Refusal::Phase);
     }
+    if number != f.number {
+        return Err(Refusal::Number);
+    }
+    let clock = f.clock;
+    if time < clock {
+        return Err(Refusal::Clock);
+    }
+    let at = f.position_of(id).ok_or(Refusal::Who)?;
+    back_at(f, at, time, value, f.entries[at].standing)
 }
 
 // A server gives back a value under the frame number that it was sent. `return` is a word of the language, so the call has this
@@ -105,25 +116,5 @@ fn back_at(f: Frame, at: usize, time: u16, value: f32, s: Standing) -> Called
 pub fn give_back(f: Frame, number: u32, id: u8, time: u16, value: f32) -> Called
     ensures { result ≡ back_step f number id time value }
 {
-    if !f.is_in(false, true, false) {
-        return f.refuse(Refusal::Phase);
-    }
-    if number != f.number {
-        return f.refuse(Refusal::Number);
-    }
-    let clock = f.clock;
-    if time < clock {
-        return f.refuse(Refusal::Clock);
-    }
-    let found = f.position_of(id);
-    match found {
-        Some(i) => {
-            let e = f.entries[i];
-            let s = e.standing;
-            return back_at(f, i, time, value, s);
-        }
-        None => {
-            return f.refuse(Refusal::Who);
-        }
-    }
+    f.answered(given_back(f, number, id, time, value))
 }

@@ -1,8 +1,7 @@
 -- The two parts, one behind the other, are the plan of the best choice.
 -- Assumes nothing.
 use mathlib.Core.Path.{◌≡◌, refl, sym, ap, ◌∙◌}
-use mathlib.Core.Bool.{true, false}
-use mathlib.Core.List.{List, [], ◌++◌}
+use mathlib.Core.List.{List, ◌++◌}
 use Rattle.std.specs.Prelude.{None, Some}
 use Prim.Native.Nat.{ℕ, ◌≤◌}
 use native.Mathlib.Omega.{arith}
@@ -21,7 +20,6 @@ use Rattle.model.proofs.Free.{answer_choice}
 use Rattle.records.specs.Limits.{most_jobs, largest_time}
 use Rattle.choice.specs.Choices.{SoundJobs, flags_of, best_mask_of}
 use Rattle.draft.specs.declared.Draft.{Draft}
-use Rattle.draft.specs.declared.Drafted.{Drafted}
 use Rattle.draft.specs.Drafts.{draft_of, drafted_of}
 use Rattle.free.specs.Parts.{in_away_order, HereRoom}
 use Rattle.free.proofs.Parts.{choose_short, choose_length, away_short}
@@ -32,12 +30,10 @@ pub plan_many : (cs : List Chosen) → (js : List Job) → Choice js cs → leng
 plan_many cs js c = length_perm (perm_plan cs c.allowed)
 
 module _ (js : List Job) (sound : SoundJobs js) (D : ℕ) where
-  pub found_nothing : None ≡ best_mask_of (answer D js) →
-      ◌≡◌ {A = Drafted} (record { found = false; draft = draft_of [] }) (drafted_of (free most_jobs D js))
+  pub found_nothing : None ≡ best_mask_of (answer D js) → None ≡ drafted_of (free most_jobs D js)
   found_nothing e = step (answer D js) refl e
     where
-      step : (c : Cell) → answer D js ≡ c → None ≡ best_mask_of c
-          → ◌≡◌ {A = Drafted} (record { found = false; draft = draft_of [] }) (drafted_of (free most_jobs D js))
+      step : (c : Cell) → answer D js ≡ c → None ≡ best_mask_of c → None ≡ drafted_of (free most_jobs D js)
       step empty q f = ap (λ (c : Cell). drafted_of (plan_found most_jobs js c)) (sym q)
       step (cell a m) q f = clash (cc)
 
@@ -81,8 +77,7 @@ module _ (js : List Job) (sound : SoundJobs js) (D : ℕ) where
               (away_short js sound (flags_of js m)));
         }
 
-    pub found_plan : (r : Draft) → r ≡ draft_of (sent ++ filter here cs)
-        → ◌≡◌ {A = Drafted} (record { found = true; draft = r }) (drafted_of (free most_jobs D js))
+    pub found_plan : (r : Draft) → r ≡ draft_of (sent ++ filter here cs) → Some r ≡ drafted_of (free most_jobs D js)
     found_plan r h =
-        (λ k. record { found = true; draft = h k })
+        ap Some h
         ∙ (ap (λ (xs : List Chosen). drafted_of (Some xs)) (sym in_parts) ∙ ap (λ (c : Cell). drafted_of (plan_found most_jobs js c)) (sym with_total.1))

@@ -14,7 +14,7 @@ ghost use Rattle.choice.specs.Choices.{SoundJobs, prepared_of, Ready};
 ghost use Rattle.free.specs.Parts.{in_away_order, HereRoom};
 
 use choice::Prepared;
-use draft::{Draft, Drafted};
+use draft::Draft;
 use model::Job;
 use table::Table;
 
@@ -44,20 +44,13 @@ fn here_part(front: Draft, jobs: &[Job], flags: &[bool; Table::MOST_JOBS]) -> Dr
 }
 
 // The plan of the best choice, if some timetable meets the deadline.
-pub fn free_plan(t: Table) -> Drafted
-    requires { Sound t }
-    ensures { result ≡ drafted_of (free most_jobs t.deadline (job_table t).jobs) }
+pub fn free_plan(t: &Table) -> Option<Draft>
+    requires { Sound t.now }
+    ensures { result ≡ drafted_of (free most_jobs t.now.deadline (job_table t.now).jobs) }
 {
     let p = choice::prepare(t);
-    let Some(mask) = choice::best_choice(t.deadline, &p) else {
-        let nothing = Draft::empty();
-        return Drafted {
-            found: false,
-            draft: nothing,
-        };
-    };
+    let mask = choice::best_choice(t.deadline, &p)?;
     let flags = choice::flags_of(&p, mask);
     let front = away_part(&p, &flags);
-    let draft = here_part(front, &t.jobs[..t.count], &flags);
-    Drafted { found: true, draft }
+    Some(here_part(front, &t.jobs[..t.count], &flags))
 }

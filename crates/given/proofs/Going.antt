@@ -1,7 +1,7 @@
 -- What the pass over the jobs keeps: the jobs placed so far as a draft, on time, and that what is still to do gives the same as the whole.
 -- Assumes nothing.
 use mathlib.Core.Path.{◌≡◌, refl, sym, ap, ◌∙◌}
-use mathlib.Core.Bool.{Bool, true, false}
+use mathlib.Core.Bool.{Bool}
 use mathlib.Core.List.{List, [], ◌∷◌, ◌++◌, append_assoc, append-nil}
 use Rattle.std.specs.Prelude.{Option, None, Some}
 use Prim.Native.Nat.{ℕ, ◌+◌, ◌≤◌, ◌<◌}
@@ -20,10 +20,8 @@ use Rattle.model.proofs.Permutations.{total_append}
 use Rattle.model.proofs.GivenOrder.{given_on, decide_fits}
 use Rattle.records.specs.Limits.{most_jobs}
 use Rattle.draft.specs.declared.Draft.{Draft}
-use Rattle.draft.specs.declared.Drafted.{Drafted}
 use Rattle.draft.specs.Drafts.{draft_of, with_chosen, drafted_of}
 use Rattle.draft.proofs.Drafts.{draft_more}
-use Rattle.given.specs.declared.Decision.TheVariants.{Run, Neither}
 use Rattle.given.specs.Given.{decision_of}
 use Rattle.plan.proofs.Steps.{steps_length}
 
@@ -53,12 +51,12 @@ module _ (D : ℕ) (js : List Job) where
       front (Some ds) = refl
 
   pub going_end : (draft : Draft) (i : ℕ) → length js ≤ i → Going D js draft i
-      → ◌≡◌ {A = Drafted} (record { found = true; draft = draft }) (drafted_of (given D 0 js))
+      → Some draft ≡ drafted_of (given D 0 js)
   going_end draft i h g =
       let none_left : drop i js ≡ [] = drop_of_length-le js {i = i} h in
       let all : Some g.placed ≡ given D 0 js = ap Some (sym (append-nil g.placed))
       ∙ ap (λ (l : List Job). behind g.placed (given D (busy g.placed) l)) (sym none_left) ∙ g.rest in
-      (λ k. record { found = true; draft = g.held k }) ∙ ap drafted_of all
+      ap Some g.held ∙ ap drafted_of all
 
   -- the draft has i steps, and has not passed D
   pub going_room : (draft : Draft) (i : ℕ) → Going D js draft i → (draft.plan.count ≡ i) × (draft.laid.busy ≤ D)
@@ -72,19 +70,18 @@ module _ (D : ℕ) (js : List Job) where
     now : draft.laid.busy ≡ busy g.placed
     now = ap (λ (d : Draft). d.laid.busy) g.held
 
-    pub going_none : Neither ≡ decision_of (decide D draft.laid.busy job)
-        → ◌≡◌ {A = Drafted} (record { found = false; draft = draft_of [] }) (drafted_of (given D 0 js))
+    pub going_none : None ≡ decision_of (decide D draft.laid.busy job) → None ≡ drafted_of (given D 0 js)
     going_none e =
         ap drafted_of (sym (sym g.rest
         ∙ ap (behind g.placed) (stop (decide D (busy g.placed) job) refl (e ∙ ap (λ (t : ℕ). decision_of (decide D t job)) now))))
       where
-        stop : (o : Option Chosen) → decide D (busy g.placed) job ≡ o → Neither ≡ decision_of o → given D (busy g.placed) (drop i js) ≡ None
+        stop : (o : Option Chosen) → decide D (busy g.placed) job ≡ o → None ≡ decision_of o → given D (busy g.placed) (drop i js) ≡ None
         stop None q h =
             rw onward (ap (λ (o : Option Chosen). elim o as (λ (x : Option Chosen). Option (List Chosen))
             [ None ↦ None | Some x ↦ put x (given D (busy g.placed + span x) (drop (i + 1) js)) ]) q)
         stop (Some c) q h = clash (cc)
 
-    pub going_more : (away : Bool) → Run away ≡ decision_of (decide D draft.laid.busy job) → length js ≤ most_jobs
+    pub going_more : (away : Bool) → Some away ≡ decision_of (decide D draft.laid.busy job) → length js ≤ most_jobs
         → Going D js (with_chosen draft (chosen job away)) (i + 1)
     going_more away e few = step (decide D (busy g.placed) job) refl (e ∙ ap (λ (t : ℕ). decision_of (decide D t job)) now)
       where
@@ -109,7 +106,7 @@ module _ (D : ℕ) (js : List Job) where
                   ∙ g.rest;
             }
 
-        step : (o : Option Chosen) → decide D (busy g.placed) job ≡ o → Run away ≡ decision_of o → Going D js (with_chosen draft new) (i + 1)
+        step : (o : Option Chosen) → decide D (busy g.placed) job ≡ o → Some away ≡ decision_of o → Going D js (with_chosen draft new) (i + 1)
         step None q h = clash (cc)
         step (Some c) q h =
             let s = decide_fits D (busy g.placed) job c q in

@@ -8,80 +8,48 @@ ghost use Rattle.records.specs.Limits.{most_jobs};
 ghost use Rattle.draft.specs.Drafts.{drafted_of};
 ghost use Rattle.given.specs.Given.{decision_of};
 
-use draft::{Draft, Drafted};
-use model::{Job, Laid, Sending};
-use plan::{Plan, Step};
+use draft::Draft;
+use model::{Job, Sending};
 use table::Table;
-
-// What becomes of the next job: it is run, away or here, or it cannot be on time.
-#[derive(Clone, Copy)]
-pub enum Decision {
-    Run(bool),
-    Neither,
-}
 
 // At time t a job is sent away if it is an either job, S < C and t + S + I <= d.
 fn is_sent(d: u32, t: u32, job: Job) -> bool
     requires { t ≤ most_busy }
     ensures { result ≡ goes d t job }
 {
-    let local = job.local;
-    let sending = job.sending;
-    match sending {
+    match job.sending {
         Sending::HereOnly => false,
         Sending::Either { setup, back } => {
-            if setup < local {
-                let finish = t + setup as u32 + back as u32;
-                if finish <= d { true } else { false }
-            } else {
-                false
-            }
+            setup < job.local && t + u32::from(setup) + u32::from(back) <= d
         }
     }
 }
 
-// Else it is kept here if t + C <= d.
-fn decided(d: u32, t: u32, job: Job) -> Decision
+// Whether the next job is sent away; else it is kept here if t + C <= d; else it cannot be on time.
+fn decided(d: u32, t: u32, job: Job) -> Option<bool>
     requires { t ≤ most_busy }
     ensures { result ≡ decision_of (decide d t job) }
 {
     if is_sent(d, t, job) {
-        return Decision::Run(true);
+        return Some(true);
     }
-    let local = job.local;
-    let finish = t + local as u32;
-    if finish <= d {
-        Decision::Run(false)
+    if t + u32::from(job.local) <= d {
+        Some(false)
     } else {
-        Decision::Neither
+        None
     }
 }
 
-// The plan in table order, if there is one. Every job is listed, so the i-th step is the i-th job's, and is written where it stays.
-pub fn given_plan(t: Table) -> Drafted
-    requires { t.count ≤ most_jobs }
-    ensures { result ≡ drafted_of (given t.deadline 0 (take t.count t.jobs)) }
+// The plan in table order, if there is one.
+pub fn given_plan(t: &Table) -> Option<Draft>
+    requires { t.now.count ≤ most_jobs }
+    ensures { result ≡ drafted_of (given t.now.deadline 0 (take t.now.count t.now.jobs)) }
 {
-    let d = t.deadline as u32;
-    let n = t.count;
-    let mut steps = [Step { id: 0, away: false }; Table::MOST_JOBS];
-    let mut laid = Laid { busy: 0, last: 0 };
-    let mut i = 0;
-    while i < n {
-        let job = t.jobs[i];
-        let decision = decided(d, laid.busy, job);
-        let Decision::Run(away) = decision else {
-            let nothing = Draft::empty();
-            return Drafted {
-                found: false,
-                draft: nothing,
-            };
-        };
-        steps[i] = Step { id: job.id, away };
-        laid = laid.with(job, away);
-        i += 1;
+    let d = u32::from(t.deadline);
+    let mut draft = Draft::empty();
+    for &job in &t.jobs[..t.count] {
+        let away = decided(d, draft.laid.busy, job)?;
+        draft.push(job, away);
     }
-    let plan = Plan { count: i, steps };
-    let draft = Draft { plan, laid };
-    Drafted { found: true, draft }
+    Some(draft)
 }

@@ -7,7 +7,7 @@ use mathlib.Core.Path.{◌≡◌, refl, sym, ap, ◌∙◌}
 use mathlib.Core.Logic.{◌⊎◌, inl, inr, ⊎_elim}
 use mathlib.Core.Bool.{true, false, not, ◌&&◌}
 use mathlib.Core.List.{List, [], ◌∷◌, ◌++◌, map}
-use Rattle.std.specs.Prelude.{None, Some}
+use Rattle.std.specs.Prelude.{None, Some, Err, Ok}
 use lib.ListN.{length, take, drop, length-take}
 use lib.Seq.{split_at, take-suc, take_all}
 use borrow.Author.Tests.{le-leb, lt-leb}
@@ -27,12 +27,11 @@ use Rattle.table.specs.Tables.{JobTable, TimesOk, GoodTable, job_id}
 use Rattle.lookup.specs.Lookup.{job_of}
 use Rattle.lookup.proofs.Lookup.{with_tells}
 use Rattle.plan.specs.declared.Step.{Step}
-use Rattle.plan.specs.declared.PlanRead.TheVariants.{PlanIs}
 use Rattle.plan.specs.Plans.{step_id, read_plan, plan_read, no_step, step_at}
 use Rattle.model.proofs.Bounds.{span_short, spans_short}
 use Rattle.plan.proofs.Steps.{steps_length}
 use Rattle.plan.proofs.Plans.{accepted_plan, step_at_lem}
-use Rattle.judge.specs.declared.Checked.TheVariants.{Passes, Fails}
+use Rattle.judge.specs.Check.{pass}
 use Rattle.judge.specs.Check.{chosen_by, before, listed, lacks_one, timed, after_plan}
 use Rattle.judge.proofs.Jobs.{before_tells, listed_tells, none_left, all_or_left}
 
@@ -73,11 +72,11 @@ pub record Walked (t : JobTable) (plan : List ℕ) (steps : ℕ) (laid : Laid) (
   pub held : laid ≡ laid_of cs
 
 module _ (t : JobTable) (plan : List ℕ) (steps : ℕ) where
-  pub walk_begin : plan_read (read_plan plan) ≡ PlanIs steps → Walked t plan steps (laid_of []) 0
+  pub walk_begin : plan_read (read_plan plan) ≡ Ok steps → Walked t plan steps (laid_of []) 0
   unfolding listed
   walk_begin e = begin (read_plan plan) refl e
     where
-      begin : (o : Outcome (List Step)) → read_plan plan ≡ o → plan_read o ≡ PlanIs steps → Walked t plan steps (laid_of []) 0
+      begin : (o : Outcome (List Step)) → read_plan plan ≡ o → plan_read o ≡ Ok steps → Walked t plan steps (laid_of []) 0
       begin (accepted xs) r e = record { xs = xs; reads = r; counted = (cc); within = omega arith; cs = []; so = refl; held = refl }
       begin (refused f) r e = clash (cc)
 
@@ -105,15 +104,15 @@ module _ (t : JobTable) (plan : List ℕ) (steps : ℕ) where
           ap (listed t.jobs) split ∙ listed_append t.jobs (take k w.xs) _ w.cs w.so
 
       -- a step that is refused is the plan's refusal
-      stops : (f : Refusal) → chosen_by (step_at plan k) (job_of t.jobs (step_at plan k).id) ≡ refused f → Fails f ≡ after_plan t (read_plan plan)
+      stops : (f : Refusal) → chosen_by (step_at plan k) (job_of t.jobs (step_at plan k).id) ≡ refused f → Err f ≡ after_plan t (read_plan plan)
       unfolding listed
       stops f e = rw (w.reads, next, e)
 
-      pub walk_stranger : job_of t.jobs (step_at plan k).id ≡ None → Fails Stranger ≡ after_plan t (read_plan plan)
+      pub walk_stranger : job_of t.jobs (step_at plan k).id ≡ None → Err Stranger ≡ after_plan t (read_plan plan)
       walk_stranger e = stops Stranger (rw e)
 
       module _ (j : Job) (named : job_of t.jobs (step_at plan k).id ≡ Some j) where
-        pub walk_kept : ((step_at plan k).away && not (is_either j)) ≡ true → Fails Kept ≡ after_plan t (read_plan plan)
+        pub walk_kept : ((step_at plan k).away && not (is_either j)) ≡ true → Err Kept ≡ after_plan t (read_plan plan)
         walk_kept e = stops Kept (rw (named, e))
 
         -- one step more is listed
@@ -150,7 +149,7 @@ module _ (t : JobTable) (plan : List ℕ) (steps : ℕ) where
           (⊎_elim (λ a. inl (a.0, none_left t.jobs w.cs a.1)) inr
           (all_or_left t.jobs w.cs good.distinct (rw l.steps (accepted_plan plan w.xs w.reads).1) l.named))
 
-      pub walk_left : GoodTable t → steps < length t.jobs → Fails Left ≡ after_plan t (read_plan plan)
+      pub walk_left : GoodTable t → steps < length t.jobs → Err Left ≡ after_plan t (read_plan plan)
       walk_left good h = ⊎_elim (λ a. absurd (omega (arith, a.0))) (λ a. rw (w.reads, whole, a.1)) (told good)
 
       module _ (good : GoodTable t) (h : length t.jobs ≤ steps) where
@@ -158,8 +157,8 @@ module _ (t : JobTable) (plan : List ℕ) (steps : ℕ) where
         walk_timed : timed t.deadline w.cs ≡ after_plan t (read_plan plan)
         walk_timed = ⊎_elim (λ a. rw (w.reads, whole, a.1)) (λ a. absurd (omega (arith, a.0))) (told good)
 
-        pub walk_passes : laid.last ≤ t.deadline → Passes laid.last laid.busy ≡ after_plan t (read_plan plan)
+        pub walk_passes : laid.last ≤ t.deadline → pass laid.last laid.busy ≡ after_plan t (read_plan plan)
         walk_passes on = rw w.held (rw (le-leb (last_from 0 w.cs) t.deadline (rw w.held at on)) at walk_timed)
 
-        pub walk_late : t.deadline < laid.last → Fails Late ≡ after_plan t (read_plan plan)
+        pub walk_late : t.deadline < laid.last → Err Late ≡ after_plan t (read_plan plan)
         walk_late late = rw (lt-leb (last_from 0 w.cs) t.deadline (rw w.held at late)) at walk_timed

@@ -36,9 +36,11 @@ pub fn put_refused(out: &mut [u8], at: usize, f: Refusal) -> usize
     ensures { Wrote out.old at (refused_text (refusal_says f)) out.new result }
 {
     let said = refusal::numbers_of(f);
-    if said.placed {
-        return put_pair(out, at, b"refused ", said.number, b" at ", said.place);
+    match said.place {
+        Some(place) => put_pair(out, at, b"refused ", said.number, b" at ", place),
+        None => {
+            let end = put_field(out, at, b"refused ", said.number);
+            octets::put(out, end, b"\n")
+        }
     }
-    let end = put_field(out, at, b"refused ", said.number);
-    octets::put(out, end, b"\n")
 }

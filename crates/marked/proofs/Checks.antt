@@ -9,7 +9,7 @@ use Rattle.records.specs.Records.{form_of, judged, used, list_from}
 use Rattle.table.specs.Tables.{frame_at, job_at, jobs_read, read_table}
 use Rattle.lookup.specs.Lookup.{with_key}
 use Rattle.plan.specs.Plans.{read_plan, record_at}
-use Rattle.judge.specs.declared.Checked.{Checked}
+use Rattle.judge.specs.Check.{Checked}
 use Rattle.judge.specs.Check.{checked_says, listed, lacks_one, check_plan}
 use Rattle.marked.specs.Marked.{E, plan_e}
 use Rattle.faults.specs.Allows.{CheckAllows}

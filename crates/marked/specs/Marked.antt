@@ -17,7 +17,7 @@ use Rattle.frame_record.specs.declared.Reading.TheVariants.{Fresh, Late}
 use Rattle.frame_record.specs.Answers.{Reply, reading_says}
 use Rattle.frame_promises.specs.Call.{begin, event}
 use Rattle.accord.specs.Allows.{FreeAllows, GivenAllows, LeastAllows}
-use Rattle.judge.specs.declared.Checked.{Checked}
+use Rattle.judge.specs.Check.{Checked}
 use Rattle.judge.specs.Check.{checked_says}
 use Rattle.faults.specs.Allows.{TableAllows, CheckAllows}
 use Rattle.frame_promises.specs.History.{Turn}

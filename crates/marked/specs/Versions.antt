@@ -12,7 +12,7 @@ use Rattle.plan.specs.Plans.{plan_bytes, steps_for}
 use Rattle.planner.specs.declared.Planned.{Planned}
 use Rattle.planner.specs.declared.Least.{Least}
 use Rattle.planner.specs.Answers.{planned_says, least_says}
-use Rattle.judge.specs.declared.Checked.{Checked}
+use Rattle.judge.specs.Check.{Checked}
 use Rattle.judge.specs.Check.{checked_says}
 use Rattle.frame_record.specs.declared.Frame.{Frame}
 use Rattle.frame_record.specs.declared.Sample.{Sample}

@@ -13,12 +13,9 @@ pub fn put(out: &mut [u8], at: usize, word: &[u8]) -> usize
     requires { at + length word.now ≤ length out.old }
     ensures { Wrote out.old at word.now out.new result }
 {
-    let mut i = 0;
-    while i < word.len() {
-        out[at + i] = word[i];
-        i += 1;
-    }
-    at + i
+    let end = at + word.len();
+    out[at..end].copy_from_slice(word);
+    end
 }
 
 // Writes `n` in decimal at a place of `out`, without leading zeros, and returns the place after it.
@@ -35,18 +32,12 @@ pub fn put_number(out: &mut [u8], at: usize, n: usize) -> usize
     end + 1
 }
 
-fn wide(b: u8) -> u16
-    ensures { result ≡ b }
-{
-    b as u16
-}
-
 // The two-byte number at a place, low byte first.
 pub fn two_at(s: &[u8], at: usize) -> u16
     requires { at + 2 ≤ length s.now }
     ensures { result ≡ two_at s.now at }
 {
-    wide(s[at]) + 256 * wide(s[at + 1])
+    u16::from_le_bytes([s[at], s[at + 1]])
 }
 
 // The four-byte number at a place, low byte first.
@@ -54,9 +45,7 @@ pub fn four_at(s: &[u8], at: usize) -> u32
     requires { at + 4 ≤ length s.now }
     ensures { result ≡ four_at s.now at }
 {
-    let low = two_at(s, at) as u32;
-    let high = two_at(s, at + 2) as u32;
-    low + 65536 * high
+    u32::from_le_bytes([s[at], s[at + 1], s[at + 2], s[at + 3]])
 }
 
 // Writes the two bytes of `n` at a place of `out`, low byte first, and returns the place after them.
@@ -64,9 +53,7 @@ pub fn put_two(out: &mut [u8], at: usize, n: u16) -> usize
     requires { at + 2 ≤ length out.old }
     ensures { Wrote out.old at (two_bytes n) out.new result }
 {
-    out[at] = (n % 256) as u8;
-    out[at + 1] = (n / 256) as u8;
-    at + 2
+    put(out, at, &u16::to_le_bytes(n))
 }
 
 // Writes the four bytes of `n` at a place of `out`, low byte first, and returns the place after them.
@@ -74,8 +61,7 @@ pub fn put_four(out: &mut [u8], at: usize, n: u32) -> usize
     requires { at + 4 ≤ length out.old }
     ensures { Wrote out.old at (four_bytes n) out.new result }
 {
-    let middle = put_two(out, at, (n % 65536) as u16);
-    put_two(out, middle, (n / 65536) as u16)
+    put(out, at, &u32::to_le_bytes(n))
 }
 
 fn hex_digit(d: u32) -> u8
@@ -94,10 +80,8 @@ pub fn put_hex(out: &mut [u8], at: usize, n: u32) -> usize
     ensures { Wrote out.old at (hex_of n) out.new result }
 {
     let mut left = n;
-    let mut count = 8;
-    while 0 < count {
-        count -= 1;
-        out[at + count] = hex_digit(left % 16);
+    for i in (0..8).rev() {
+        out[at + i] = hex_digit(left % 16);
         left /= 16;
     }
     at + 8

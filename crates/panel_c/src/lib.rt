@@ -2,9 +2,7 @@
 #![tactic(auto)]
 
 ghost use Rattle.std.specs.Prelude.{◌≡◌};
-ghost use Rattle.planner.specs.declared.Planned.{Planned};
-ghost use Rattle.planner.specs.declared.Least.{Least};
-ghost use Rattle.planner.specs.Answers.{FreeAnswer, GivenAnswer, LeastAnswer};
+ghost use Rattle.planner.specs.Answers.{Planned, Least, FreeAnswer, GivenAnswer, LeastAnswer};
 ghost use Rattle.judge.specs.Check.{check_plan};
 ghost use Rattle.panel.specs.Numbers.{planned_numbers, least_numbers, checked_numbers};
 

@@ -12,18 +12,17 @@ use Rattle.model.proofs.Lists.{all_all}
 use Rattle.records.specs.declared.refusal.Place.{Place}
 use Rattle.records.specs.declared.kind.StepKind.{StepKind}
 use Rattle.records.specs.declared.kind.StepKind.TheVariants.{HereStep, AwayStep, EndStep}
-use Rattle.records.specs.declared.kind.Meaning.TheVariants.{Step as StepOf}
 use Rattle.records.specs.Limits.{most_jobs, longest_plan}
 use Rattle.records.specs.Refusals.{start, past, accepted}
 use Rattle.records.specs.Kinds.{run_here, send_away, plan_end}
-use Rattle.records.specs.Records.{form, form_of, step_only, one, last}
-use Rattle.records.proofs.Records.{step_byte, step_length, opened}
+use Rattle.std.specs.Prelude.{Err}
+use Rattle.records.specs.Records.{form_of, step_only, one, last, parsed}
+use Rattle.records.proofs.Records.{step_byte, step_length, step_form, whole}
 use Rattle.octets.proofs.Numbers.{byte_from}
 use Rattle.table.proofs.ReadBack.{kind_byte, long}
 use Rattle.records.proofs.Listed.{Distinct, listed_good, listed_bytes, listed_back}
 use Rattle.plan.specs.declared.Step.{Step}
-use Rattle.plan.specs.declared.RecordRead.TheVariants.{RecordRefused}
-use Rattle.plan.specs.Plans.{step_body, record_at, step_parsed, step_id, read_plan, step_bytes, plan_bytes, no_step, step_at}
+use Rattle.plan.specs.Plans.{step_body, record_at, step_id, read_plan, step_bytes, plan_bytes, no_step, step_at}
 use Rattle.plan.proofs.Steps.{plan_entry, step_read, end_read, plan_length}
 
 -- the bytes of a plan are those of its steps, and then the end record's
@@ -74,22 +73,15 @@ step_at_lem s xs e k h =
     rw (read_bytes s xs e) (simp (lt-ltb _ _ there, bytes.0, bytes.1, kind_tells))
 
 -- Reading back: what is read where the bytes of a step or of the end stand.
-kind_form : (k : StepKind) → form_of (step_byte k) ≡ form (StepOf k) (step_length k)
-unfolding form_of
-kind_form HereStep = refl
-kind_form AwayStep = refl
-kind_form EndStep = refl
-
 module _ (s : List ℕ) (p : Place) (n : ℕ) where
   -- a whole record of a kind is read as that kind's body
   pub opens :
       (k : StepKind) (body : List ℕ) → drop p.at s ≡ step_byte k ∷ body → step_length k ≤ length body →
       record_at s p n ≡ step_body s p n (past p (step_length k)) k
   unfolding record_at
-  opens k body e whole =
+  opens k body e fits =
       let size = long s p _ e in
-      opened RecordRefused (step_body s p n) step_only s p {f = form (StepOf k) (step_length k)}
-      (sym (rw (kind_byte s p _ e) (kind_form k))) (omega arith) k refl (omega arith)
+      whole Err (step_body s p n) step_only s p (ap form_of (kind_byte s p _ e) ∙ step_form k) (omega arith) k refl (omega arith)
 
   pub step_back : (x : Step) (rest : List ℕ) → drop p.at s ≡ step_bytes x ++ rest → n < most_jobs → plan_entry s p n ≡ one x (past p 1)
   step_back x rest e few = go x.away e
@@ -97,11 +89,11 @@ module _ (s : List ℕ) (p : Place) (n : ℕ) where
       go :
           (away : Bool) → drop p.at s ≡ cond away send_away run_here ∷ x.id ∷ rest →
           plan_entry s p n ≡ one (record { id = x.id; away = away }) (past p 1)
-      go true b = ap step_parsed (opens AwayStep (x.id ∷ rest) b (omega arith)) ∙ simp (lt-ltb n most_jobs few, byte_from s p.at _ b 1)
-      go false b = ap step_parsed (opens HereStep (x.id ∷ rest) b (omega arith)) ∙ simp (lt-ltb n most_jobs few, byte_from s p.at _ b 1)
+      go true b = ap parsed (opens AwayStep (x.id ∷ rest) b (omega arith)) ∙ simp (lt-ltb n most_jobs few, byte_from s p.at _ b 1)
+      go false b = ap parsed (opens HereStep (x.id ∷ rest) b (omega arith)) ∙ simp (lt-ltb n most_jobs few, byte_from s p.at _ b 1)
 
   pub end_back : (more : List ℕ) → drop p.at s ≡ plan_end ∷ more → plan_entry s p n ≡ last (past p 0)
-  end_back more e = ap step_parsed (opens EndStep more e (omega arith))
+  end_back more e = ap parsed (opens EndStep more e (omega arith))
 
 -- a plan that is written reads back as the same plan
 pub plan_back : (xs : List Step) → length xs ≤ most_jobs → Distinct step_id xs → read_plan (plan_bytes xs) ≡ accepted xs

@@ -4,11 +4,12 @@
 ghost use Rattle.std.specs.Prelude.{◌≡◌, [], ◌++◌, ◌+◌, ◌<◌, ◌≤◌, length, drop};
 ghost use Rattle.records.specs.Limits.{most_jobs, longest_plan};
 ghost use Rattle.octets.specs.Writing.{Wrote};
-ghost use Rattle.plan.specs.Plans.{listed_at, record_at, refusal_of, ended_at, read_plan, plan_read, step_bytes, plan_bytes};
+ghost use Rattle.plan.specs.Plans.{listed_at, record_at, read_plan, plan_read, step_bytes, plan_bytes};
 ghost use Rattle.plan.specs.Plans.{step_at, plan_of, with_step, steps_of};
 
-use records::kind;
-use records::kind::{Meaning, PLAN_END, RUN_HERE, SEND_AWAY, StepKind};
+use records::kind::{PLAN_END, RUN_HERE, SEND_AWAY, StepKind};
+use records::record;
+use records::record::Record;
 use records::refusal::{Place, Refusal};
 use table::Table;
 
@@ -17,26 +18,6 @@ use table::Table;
 pub struct Step {
     pub id: u8,
     pub away: bool,
-}
-
-// A record of a plan: a step with the place of the record after it, or the end with the place after it.
-#[derive(Clone, Copy)]
-pub enum Record {
-    Listed(Step, Place),
-    Last(Place),
-}
-
-#[derive(Clone, Copy)]
-pub enum RecordRead {
-    RecordIs(Record),
-    RecordRefused(Refusal),
-}
-
-// A whole plan has this many steps.
-#[derive(Clone, Copy)]
-pub enum PlanRead {
-    PlanIs(usize),
-    PlanRefused(Refusal),
 }
 
 // A plan that is being made: the first `count` steps stand.
@@ -56,81 +37,48 @@ impl Plan {
         Plan { count: 0, steps }
     }
 
-    // The plan with one more step at its end.
-    pub fn with_step(mut self, step: Step) -> Plan
-        requires { self.count < most_jobs }
-        ensures { result ≡ with_step self step }
+    // One more step at the plan's end.
+    pub fn push(&mut self, step: Step)
+        requires { self.old.count < most_jobs }
+        ensures { self.new ≡ with_step self.old step }
     {
-        let n = self.count;
-        self.steps[n] = step;
-        self.count = n + 1;
-        self
+        self.steps[self.count] = step;
+        self.count += 1;
     }
 }
 
 // A step whose record is whole, where `count` steps stand before it.
-fn listed_at(s: &[u8], p: Place, next: Place, count: usize, away: bool) -> RecordRead
+fn listed_at(
+    s: &[u8],
+    p: Place,
+    next: Place,
+    count: usize,
+    away: bool,
+) -> Result<Record<Step>, Refusal>
     requires { p.at + 1 < length s.now }
     ensures { result ≡ listed_at s.now p next count away }
 {
     if Table::MOST_JOBS <= count {
-        return RecordRead::RecordRefused(Refusal::Many(p));
+        return Err(Refusal::Many(p));
     }
-    let step = Step {
-        id: s[p.at + 1],
-        away,
-    };
-    RecordRead::RecordIs(Record::Listed(step, next))
+    let id = s[p.at + 1];
+    Ok(Record::Listed(Step { id, away }, next))
 }
 
 // The record at a place, where `count` steps stand before it.
-fn record_at(s: &[u8], p: Place, count: usize) -> RecordRead
+fn record_at(s: &[u8], p: Place, count: usize) -> Result<Record<Step>, Refusal>
     ensures { result ≡ record_at s.now p count }
 {
-    let at = p.at;
-    if s.len() <= at {
-        return RecordRead::RecordRefused(Refusal::Short(p));
-    }
-    let form = kind::form_of(s[at]);
-    let meaning = form.meaning;
-    let body = form.body;
-    let Meaning::Step(k) = meaning else {
-        return RecordRead::RecordRefused(Refusal::Kind(p));
-    };
-    if s.len() - (at + 1) < body {
-        return RecordRead::RecordRefused(Refusal::Short(p));
-    }
-    let next = p.past(body);
-    match k {
-        StepKind::HereStep => listed_at(s, p, next, count, false),
-        StepKind::AwayStep => listed_at(s, p, next, count, true),
-        StepKind::EndStep => RecordRead::RecordIs(Record::Last(next)),
-    }
-}
-
-// A refused record's refusal; `read_plan` asks it of no other.
-fn refusal_of(answer: RecordRead) -> Refusal
-    ensures { result ≡ refusal_of answer }
-{
-    match answer {
-        RecordRead::RecordIs(_) => Refusal::None,
-        RecordRead::RecordRefused(f) => f,
-    }
-}
-
-// Nothing may stand after the end record.
-fn ended_at(s: &[u8], count: usize, p: Place) -> PlanRead
-    ensures { result ≡ ended_at s.now count p }
-{
-    if s.len() <= p.at {
-        PlanRead::PlanIs(count)
-    } else {
-        PlanRead::PlanRefused(Refusal::After(p))
+    let step = record::opened::<StepKind>(s, p)?;
+    match step.kind {
+        StepKind::HereStep => listed_at(s, p, step.next, count, false),
+        StepKind::AwayStep => listed_at(s, p, step.next, count, true),
+        StepKind::EndStep => Ok(Record::Last(step.next)),
     }
 }
 
 // How many steps a plan has, or what is refused of it; `seen` tells the ids that stand before.
-pub fn read_plan(s: &[u8]) -> PlanRead
+pub fn read_plan(s: &[u8]) -> Result<usize, Refusal>
     ensures { result ≡ plan_read (read_plan s.now) }
 {
     let mut seen = [false; 256];
@@ -138,20 +86,20 @@ pub fn read_plan(s: &[u8]) -> PlanRead
     let mut p = Place::start();
     loop {
         let answer = record_at(s, p, count);
-        let RecordRead::RecordIs(record) = answer else {
-            return PlanRead::PlanRefused(refusal_of(answer));
+        let Ok(record) = answer else {
+            return answer.and(Ok(count));
         };
         match record {
             Record::Listed(step, next) => {
                 let id = step.id as usize;
                 if seen[id] {
-                    return PlanRead::PlanRefused(Refusal::Twice(p));
+                    return Err(Refusal::Twice(p));
                 }
                 seen[id] = true;
                 count += 1;
                 p = next;
             }
-            Record::Last(next) => return ended_at(s, count, next),
+            Record::Last(next) => return record::ended_at(s, next).and(Ok(count)),
         }
     }
 }
@@ -180,17 +128,14 @@ fn put_step(area: &mut [u8], at: usize, step: Step) -> usize
 }
 
 // Writes the plan at the front of the area, leaves the rest, and returns how many bytes it wrote.
-pub fn write_plan(area: &mut [u8], plan: Plan) -> usize
-    requires { (plan.count ≤ most_jobs) × (longest_plan ≤ length area.old) }
-    ensures { (result ≡ length (plan_bytes (steps_of plan)))
-        × (area.new ≡ plan_bytes (steps_of plan) ++ drop (length (plan_bytes (steps_of plan))) area.old) }
+pub fn write_plan(area: &mut [u8], plan: &Plan) -> usize
+    requires { (plan.now.count ≤ most_jobs) × (longest_plan ≤ length area.old) }
+    ensures { (result ≡ length (plan_bytes (steps_of plan.now)))
+        × (area.new ≡ plan_bytes (steps_of plan.now) ++ drop (length (plan_bytes (steps_of plan.now))) area.old) }
 {
-    let n = plan.count;
-    let mut i = 0;
     let mut at = 0;
-    while i < n {
-        at = put_step(area, at, plan.steps[i]);
-        i += 1;
+    for &step in &plan.steps[..plan.count] {
+        at = put_step(area, at, step);
     }
     let end = [PLAN_END];
     octets::put(area, at, &end)

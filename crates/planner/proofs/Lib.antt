@@ -1,4 +1,3 @@
 pub mod Finishing
 pub mod Deadlines
-pub mod Orders
 pub mod Settled

@@ -1,5 +1,6 @@
 -- Two answers and areas that a planner's contract allows coincide: the contract settles the call.
 -- Assumes nothing.
+use Rattle.std.specs.Prelude.{Ok, Err}
 use mathlib.Core.Path.{◌≡◌, refl, sym, ap, subst, ◌∙◌}
 use mathlib.Core.List.{List}
 use Prim.Native.Nat.{ℕ}
@@ -13,34 +14,30 @@ use Rattle.model.proofs.Best.{best_unique}
 use Rattle.model.proofs.GivenOrder.{best_in_order_iff, best_in_order_unique}
 use Rattle.model.proofs.LeastDeadline.{least_unique, met_mono}
 use Rattle.records.specs.declared.refusal.Refusal.{Refusal}
-use Rattle.records.specs.declared.refusal.Refusal.TheVariants.{None, Room}
+use Rattle.records.specs.declared.refusal.Refusal.TheVariants as R
 use Rattle.records.specs.Limits.{largest_time}
 use Rattle.records.specs.Refusals.{refusal_says, Outcome, accepted}
 use Rattle.table.specs.Tables.{JobTable}
 use Rattle.records.proofs.Refusals.{says_injective, says_not_zero}
-use Rattle.planner.specs.declared.Planned.{Planned}
-use Rattle.planner.specs.declared.Planned.TheVariants.{PlanWritten, NotPlanned}
-use Rattle.planner.specs.declared.Least.{Least}
-use Rattle.planner.specs.declared.Least.TheVariants.{DeadlineIs, NoDeadline}
-use Rattle.planner.specs.Answers.{planned_says, least_says, Refuses, Writes, PlanAnswer, no_room, bad_table, no_plan, planned}
+use Rattle.planner.specs.Answers.{Planned, Least, planned_says, least_says, Refuses, Writes, PlanAnswer, no_room, bad_table, no_plan, planned}
 use Rattle.planner.specs.Answers.{Possible, FreePlan, FreeRead, GivenPlan, GivenRead, LeastRead, never_met, met_from}
 
 -- what is said tells the answer
 pub planned_says_injective : (r q : Planned) → planned_says r ≡ planned_says q → r ≡ q
-planned_says_injective (PlanWritten n b l) (PlanWritten m c k) e =
-    let x : n ≡ m = cc in
-    let y : b ≡ c = cc in
-    let z : l ≡ k = cc in
-    λ i. PlanWritten (x i) (y i) (z i)
-planned_says_injective (PlanWritten n b l) (NotPlanned g) e = absurd (says_not_zero g _ (sym e))
-planned_says_injective (NotPlanned f) (PlanWritten m c k) e = absurd (says_not_zero f _ e)
-planned_says_injective (NotPlanned f) (NotPlanned g) e = ap NotPlanned (says_injective f g e)
+planned_says_injective (Ok p) (Ok q) e =
+    let bytes : p.bytes ≡ q.bytes = cc in
+    let busy : p.busy ≡ q.busy = cc in
+    let last : p.last ≡ q.last = cc in
+    λ i. Ok (record { bytes = bytes i; busy = busy i; last = last i })
+planned_says_injective (Ok p) (Err g) e = absurd (says_not_zero g _ (sym e))
+planned_says_injective (Err f) (Ok q) e = absurd (says_not_zero f _ e)
+planned_says_injective (Err f) (Err g) e = ap Err (says_injective f g e)
 
 pub least_says_injective : (r q : Least) → least_says r ≡ least_says q → r ≡ q
-least_says_injective (DeadlineIs d) (DeadlineIs e) h = let x : d ≡ e = cc in ap DeadlineIs x
-least_says_injective (DeadlineIs d) (NoDeadline g) h = absurd (says_not_zero g _ (sym h))
-least_says_injective (NoDeadline f) (DeadlineIs e) h = absurd (says_not_zero f _ h)
-least_says_injective (NoDeadline f) (NoDeadline g) h = ap NoDeadline (says_injective f g h)
+least_says_injective (Ok d) (Ok e) h = let x : d ≡ e = cc in ap Ok x
+least_says_injective (Ok d) (Err g) h = absurd (says_not_zero g _ (sym h))
+least_says_injective (Err f) (Ok e) h = absurd (says_not_zero f _ h)
+least_says_injective (Err f) (Err g) h = ap Err (says_injective f g h)
 
 -- a free-order plan tells that some timetable meets its deadline, and there is one only
 pub best_meets : (t : JobTable) (xs : List Chosen) → FreePlan t xs → Possible Timetable t
@@ -70,7 +67,7 @@ module _ (read : Outcome JobTable) (before : List ℕ) (r : Planned) (a : List �
       (unique : (t : JobTable) (xs ys : List Chosen) → IsPlan t xs → IsPlan t ys → xs ≡ ys)
     where
       planner_settled : PlanAnswer CanMeet IsPlan read before r a → PlanAnswer CanMeet IsPlan read before q b → Same r a q b
-      planner_settled (no_room l h) (no_room m k) = both_refuse Room Room refl h k
+      planner_settled (no_room l h) (no_room m k) = both_refuse R.Room R.Room refl h k
       planner_settled (no_room l h) (bad_table m g e k) = absurd (omega arith)
       planner_settled (no_room l h) (no_plan m t e n k) = absurd (omega arith)
       planner_settled (no_room l h) (planned m t e ys p k) = absurd (omega arith)
@@ -80,7 +77,7 @@ module _ (read : Outcome JobTable) (before : List ℕ) (r : Planned) (a : List �
       planner_settled (bad_table l f d h) (planned m t e ys p k) = clash (cc)
       planner_settled (no_plan l t d n h) (no_room m k) = absurd (omega arith)
       planner_settled (no_plan l t d n h) (bad_table m g e k) = clash (cc)
-      planner_settled (no_plan l t d n h) (no_plan m u e o k) = both_refuse None None refl h k
+      planner_settled (no_plan l t d n h) (no_plan m u e o k) = both_refuse R.None R.None refl h k
       planner_settled (no_plan l t d n h) (planned m u e ys p k) = absurd (n (rw (same_table t u d e) (possible u ys p)))
       planner_settled (planned l t d xs p h) (no_room m k) = absurd (omega arith)
       planner_settled (planned l t d xs p h) (bad_table m g e k) = clash (cc)

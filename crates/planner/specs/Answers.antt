@@ -1,33 +1,35 @@
 -- Document 01, 'The free-order plan', 'The given-order plan', 'Least deadline' and 'Refusal numbers': what the three planners answer,
 -- by number and values, and what they leave in the area, told of what was read of the table's bytes. Assumes nothing.
-use Rattle.std.specs.Prelude.{◌≡◌, List, [], ◌∷◌, ◌++◌, ℕ, ◌≤◌, ◌<◌, length, drop}
-use Rattle.std.specs.Prelude.{Option, None, Some}
+use Rattle.std.specs.Prelude.{◌≡◌, List, [], ◌∷◌, ◌++◌, ℕ, ◌≤◌, ◌<◌, length, drop, Result, Ok, Err}
 use Rattle.model.specs.declared.Job.{Job}
 use Rattle.model.specs.Timetable.{Chosen, Placed, chosen_in, Timetable, Meets, Met}
 use Rattle.model.specs.FreeOrder.{plan, last_from, Best, LeastDeadline}
 use Rattle.model.specs.GivenOrder.{InOrder, BestInOrder}
 use Rattle.records.specs.declared.refusal.Refusal.{Refusal}
 use Rattle.records.specs.declared.refusal.Refusal.TheVariants as R
-use Rattle.table.specs.declared.TableVerdict.TheVariants.{Whole, Refused}
-use Rattle.table.specs.declared.TableRead.{TableRead}
 use Rattle.records.specs.Limits.{largest_time, longest_plan}
 use Rattle.records.specs.Refusals.{refusal_says, Outcome, accepted, refused}
 use Rattle.table.specs.Tables.{JobTable, run_deadline, run_busy, job_table, Sound, read_table}
+use Rattle.table.specs.declared.Table.{Table}
 use Rattle.plan.specs.Plans.{plan_bytes, steps_for}
-use Rattle.planner.specs.declared.Planned.{Planned}
-use Rattle.planner.specs.declared.Planned.TheVariants.{PlanWritten, NotPlanned}
-use Rattle.planner.specs.declared.Least.{Least}
-use Rattle.planner.specs.declared.Least.TheVariants.{DeadlineIs, NoDeadline}
+use Rattle.planner.specs.declared.Written.{Written}
+
+-- What a planner answers: the plan that was written, or a refusal; and the least deadline, or a refusal.
+abbrev pub Planned : Type 0
+Planned = Result Written Refusal
+
+abbrev pub Least : Type 0
+Least = Result ℕ Refusal
 
 -- Number and values: 0 for an accepted call, with "plan length, busy total and last finish", or the deadline; else the refusal's.
 
 abbrev pub planned_says : Planned → List ℕ
-planned_says (PlanWritten bytes busy last) = 0 ∷ bytes ∷ busy ∷ last ∷ []
-planned_says (NotPlanned f) = refusal_says f
+planned_says (Ok plan) = 0 ∷ plan.bytes ∷ plan.busy ∷ plan.last ∷ []
+planned_says (Err f) = refusal_says f
 
 abbrev pub least_says : Least → List ℕ
-least_says (DeadlineIs d) = 0 ∷ d ∷ []
-least_says (NoDeadline f) = refusal_says f
+least_says (Ok d) = 0 ∷ d ∷ []
+least_says (Err f) = refusal_says f
 
 -- "No refusal writes to an output area."
 pub record Refuses (f : Refusal) (before : List ℕ) (r : Planned) (after : List ℕ) : Type 0 where
@@ -90,15 +92,12 @@ pub data LeastRead (read : Outcome JobTable) (r : Least) : Type 0 where
 abbrev pub LeastAnswer : List ℕ → Least → Type 0
 LeastAnswer s = LeastRead (read_table s)
 
--- What was read, as the code holds it; a table with the verdict `Whole` is sound.
+-- What was read, as the code holds it; a table that was read is sound.
 
-abbrev pub was_read : TableRead → Outcome JobTable
-was_read x = elim x.verdict [ Whole ↦ accepted (job_table x.table) | Refused f ↦ refused f ]
+abbrev pub was_read : Result Table Refusal → Outcome JobTable
+was_read (Ok t) = accepted (job_table t)
+was_read (Err f) = refused f
 
-abbrev pub SoundRead : TableRead → Type 0
-SoundRead x = x.verdict ≡ Whole → Sound x.table
-
--- what a planner makes of what it found for a table: NONE, or the plan written
-abbrev pub Finishes : JobTable → Option (List Chosen) → List ℕ → Planned → List ℕ → Type 0
-Finishes t None before r after = Refuses R.None before r after
-Finishes t (Some xs) before r after = Writes t xs before r after
+abbrev pub SoundRead : Result Table Refusal → Type 0
+SoundRead (Ok t) = Sound t
+SoundRead (Err f) = Unit {0}

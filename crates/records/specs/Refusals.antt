@@ -1,6 +1,6 @@
 -- Document 01, 'Refusal numbers': what each refusal says to the caller, its number and its values.
 -- Assumes nothing.
-use Rattle.std.specs.Prelude.{ℕ, ◌+◌, true, false, List, [], ◌∷◌}
+use Rattle.std.specs.Prelude.{ℕ, ◌+◌, List, [], ◌∷◌, Some, None as no_place}
 use Rattle.records.specs.declared.refusal.Place.{Place}
 use Rattle.records.specs.declared.refusal.Said.{Said}
 use Rattle.records.specs.declared.refusal.Refusal.{Refusal}
@@ -36,11 +36,11 @@ refusal_says Value = 16 ∷ []
 refusal_says Early = 17 ∷ []
 refusal_says Room = 18 ∷ []
 
--- the same as `numbers_of` answers it; where there is no place, 0 stands
+-- the same as `numbers_of` answers it
 abbrev pub said_by : List ℕ → Said
-said_by [] = record { number = 0; placed = false; place = 0 }
-said_by (n ∷ []) = record { number = n; placed = false; place = 0 }
-said_by (n ∷ p ∷ rest) = record { number = n; placed = true; place = p }
+said_by [] = record { number = 0; place = no_place }
+said_by (n ∷ []) = record { number = n; place = no_place }
+said_by (n ∷ p ∷ rest) = record { number = n; place = Some p }
 
 -- What bytes or a call come to: accepted with what they mean, or refused.
 pub data Outcome (A : Type 0) : Type 0 where

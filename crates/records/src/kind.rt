@@ -1,6 +1,7 @@
-// The kinds of record of tables and plans: their bytes, what a kind byte means, and how long the body is that it fixes.
-ghost use Rattle.std.specs.Prelude.{◌≡◌};
-ghost use Rattle.records.specs.Records.{form_of};
+// The kinds of record of tables and plans: their bytes, what a kind byte means, how long the body is that it fixes, and which kinds may stand where.
+ghost use Rattle.std.specs.Prelude.{◌≡◌, Option};
+ghost use Rattle.records.specs.declared.kind.Meaning.{Meaning};
+ghost use Rattle.records.specs.Records.{form_of, frame_only, row_only, step_only};
 
 // The bytes of the kinds, stated once; specs/Kinds.antt has the same, and `form_of` ties the two.
 pub const FRAME: u8 = 0x10;
@@ -16,6 +17,10 @@ pub const RUN_HERE: u8 = 0x20;
 pub const SEND_AWAY: u8 = 0x21;
 
 pub const PLAN_END: u8 = 0x2F;
+
+// The one record that a table begins with.
+#[derive(Clone, Copy)]
+pub struct FrameKind;
 
 // The records of a table after the first.
 #[derive(Clone, Copy)]
@@ -38,7 +43,6 @@ pub enum Meaning {
     Frame,
     Row(RowKind),
     Step(StepKind),
-    Unknown,
 }
 
 #[derive(Clone, Copy)]
@@ -47,42 +51,60 @@ pub struct Form {
     pub body: usize,
 }
 
-// The table of kinds: for every byte what it means, and the length of the body that follows it.
-pub fn form_of(kind: u8) -> Form
+// The table of kinds: for every known byte what it means, and the length of the body that follows it.
+pub fn form_of(kind: u8) -> Option<Form>
     ensures { result ≡ form_of kind }
 {
-    match kind {
-        FRAME => Form {
-            meaning: Meaning::Frame,
-            body: 2,
-        },
-        HERE_JOB => Form {
-            meaning: Meaning::Row(RowKind::HereRow),
-            body: 3,
-        },
-        EITHER_JOB => Form {
-            meaning: Meaning::Row(RowKind::EitherRow),
-            body: 7,
-        },
-        TABLE_END => Form {
-            meaning: Meaning::Row(RowKind::EndRow),
-            body: 0,
-        },
-        RUN_HERE => Form {
-            meaning: Meaning::Step(StepKind::HereStep),
-            body: 1,
-        },
-        SEND_AWAY => Form {
-            meaning: Meaning::Step(StepKind::AwayStep),
-            body: 1,
-        },
-        PLAN_END => Form {
-            meaning: Meaning::Step(StepKind::EndStep),
-            body: 0,
-        },
-        _ => Form {
-            meaning: Meaning::Unknown,
-            body: 0,
-        },
+    let (meaning, body) = match kind {
+        FRAME => (Meaning::Frame, 2),
+        HERE_JOB => (Meaning::Row(RowKind::HereRow), 3),
+        EITHER_JOB => (Meaning::Row(RowKind::EitherRow), 7),
+        TABLE_END => (Meaning::Row(RowKind::EndRow), 0),
+        RUN_HERE => (Meaning::Step(StepKind::HereStep), 1),
+        SEND_AWAY => (Meaning::Step(StepKind::AwayStep), 1),
+        PLAN_END => (Meaning::Step(StepKind::EndStep), 0),
+        _ => return None,
+    };
+    Some(Form { meaning, body })
+}
+
+// The kinds that may stand at a place of a file: the frame record first, then rows; in a plan steps.
+pub trait Allowed: Drop {
+    ghost only: { Meaning → Option Self };
+
+    fn of(meaning: Meaning) -> Option<Self>
+        ensures { result ≡ only meaning };
+}
+
+impl Allowed for FrameKind {
+    ghost only = { frame_only };
+
+    fn of(meaning: Meaning) -> Option<FrameKind> {
+        match meaning {
+            Meaning::Frame => Some(FrameKind),
+            _ => None,
+        }
+    }
+}
+
+impl Allowed for RowKind {
+    ghost only = { row_only };
+
+    fn of(meaning: Meaning) -> Option<RowKind> {
+        match meaning {
+            Meaning::Row(kind) => Some(kind),
+            _ => None,
+        }
+    }
+}
+
+impl Allowed for StepKind {
+    ghost only = { step_only };
+
+    fn of(meaning: Meaning) -> Option<StepKind> {
+        match meaning {
+            Meaning::Step(kind) => Some(kind),
+            _ => None,
+        }
     }
 }

@@ -3,4 +3,5 @@
 #![tactic(auto)]
 
 pub mod refusal; // refusal.rt: the eighteen refusals and their places
-pub mod kind; // kind.rt: what a kind byte means
+pub mod kind; // kind.rt: what a kind byte means, and which kinds may stand where
+pub mod record; // record.rt: a record's head, and the end of a file

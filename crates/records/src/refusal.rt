@@ -1,9 +1,9 @@
 // What is refused, by document 01's numbers (specs/Refusals.antt), and the place that refusals 1 to 6 name.
-ghost use Rattle.std.specs.Prelude.{[], ◌∷◌, ◌≡◌, ◌+◌, ◌<◌, ◌^◌};
+ghost use Rattle.std.specs.Prelude.{◌≡◌, ◌+◌, ◌<◌, ◌^◌};
 ghost use Rattle.records.specs.Refusals.{start, past, refusal_says, said_by};
 
 // Where in the bytes a record stands: the offset of its kind byte. The readers go from place to place by the two functions here, which alone make one.
-#[derive(Clone, Copy)]
+#[derive(Clone, Copy, Debug, PartialEq, Eq)]
 pub struct Place {
     pub at: usize,
 }
@@ -28,7 +28,7 @@ impl Place {
 }
 
 // In the order of document 01's table, numbers 1 to 18.
-#[derive(Clone, Copy)]
+#[derive(Clone, Copy, Debug, PartialEq, Eq)]
 pub enum Refusal {
     Short(Place),
     Kind(Place),
@@ -51,55 +51,35 @@ pub enum Refusal {
 }
 
 // What a refusal says to the caller, in plain numbers: its own and, if it is placed, that of its place.
-#[derive(Clone, Copy)]
+#[derive(Clone, Copy, Debug, PartialEq, Eq)]
 pub struct Said {
     pub number: usize,
-    pub placed: bool,
-    pub place: usize,
-}
-
-fn at_place(number: usize, p: Place) -> Said
-    ensures { result ≡ said_by (number ∷ p.at ∷ []) }
-{
-    Said {
-        number,
-        placed: true,
-        place: p.at,
-    }
-}
-
-fn no_place(number: usize) -> Said
-    ensures { result ≡ said_by (number ∷ []) }
-{
-    Said {
-        number,
-        placed: false,
-        place: 0,
-    }
+    pub place: Option<usize>,
 }
 
 // The numbers, stated once for every program that prints or returns them.
 pub fn numbers_of(f: Refusal) -> Said
     ensures { result ≡ said_by (refusal_says f) }
 {
-    match f {
-        Refusal::Short(p) => at_place(1, p),
-        Refusal::Kind(p) => at_place(2, p),
-        Refusal::Range(p) => at_place(3, p),
-        Refusal::Many(p) => at_place(4, p),
-        Refusal::Twice(p) => at_place(5, p),
-        Refusal::After(p) => at_place(6, p),
-        Refusal::None => no_place(7),
-        Refusal::Stranger => no_place(8),
-        Refusal::Kept => no_place(9),
-        Refusal::Left => no_place(10),
-        Refusal::Late => no_place(11),
-        Refusal::Phase => no_place(12),
-        Refusal::Number => no_place(13),
-        Refusal::Clock => no_place(14),
-        Refusal::Who => no_place(15),
-        Refusal::Value => no_place(16),
-        Refusal::Early => no_place(17),
-        Refusal::Room => no_place(18),
-    }
+    let (number, place) = match f {
+        Refusal::Short(p) => (1, Some(p.at)),
+        Refusal::Kind(p) => (2, Some(p.at)),
+        Refusal::Range(p) => (3, Some(p.at)),
+        Refusal::Many(p) => (4, Some(p.at)),
+        Refusal::Twice(p) => (5, Some(p.at)),
+        Refusal::After(p) => (6, Some(p.at)),
+        Refusal::None => (7, None),
+        Refusal::Stranger => (8, None),
+        Refusal::Kept => (9, None),
+        Refusal::Left => (10, None),
+        Refusal::Late => (11, None),
+        Refusal::Phase => (12, None),
+        Refusal::Number => (13, None),
+        Refusal::Clock => (14, None),
+        Refusal::Who => (15, None),
+        Refusal::Value => (16, None),
+        Refusal::Early => (17, None),
+        Refusal::Room => (18, None),
+    };
+    Said { number, place }
 }

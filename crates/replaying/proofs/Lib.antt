@@ -1,4 +1,6 @@
 pub mod Rooms
 pub mod Turns
-pub mod Runs
 pub mod Examples
+pub mod Patterns
+pub mod Handed
+pub mod Runs

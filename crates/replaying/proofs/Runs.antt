@@ -1,22 +1,20 @@
 -- What the turns hand out is the text of the log: whatever `next_line`'s own contract allows, turn after turn from idle until the log's end, the lines at
 -- the front of the lent areas, one after the other, are `replay_text`, and the frame's record is `replayed`. Assumes nothing.
-use Prim.Native.Nat.{ℕ, zero, suc, ◌+◌, ◌<◌, ◌≤◌}
+use Prim.Native.Nat.{ℕ, zero, suc, ◌+◌, ◌-◌, ◌<◌, ◌≤◌}
 use native.Mathlib.Omega.{arith}
-use mathlib.Core.Path.{◌≡◌, refl, sym, ap, ◌∙◌}
+use mathlib.Core.Path.{◌≡◌, sym, ap, ◌∙◌}
 use mathlib.Core.List.{List, [], ◌++◌}
 use lib.ListN.{length, take, drop, length-drop}
-use lib.Seq.{take_at, drop-drop}
+use lib.Seq.{take_all, drop-drop}
 use Rattle.std.specs.Borrow.{Bor, MutBor}
-use borrow.Author.Tests.{eq-eqb, ne_eqb}
-use Rattle.octets.proofs.Writing.{written_front}
-use Rattle.octets.specs.Writing.{Wrote}
 use Rattle.frame_record.specs.declared.Frame.{Frame}
 use Rattle.frame_record.specs.Answers.{idle}
 use Rattle.replaying.specs.declared.Turn.{Turn}
 use Rattle.frame_log.specs.Log.{record_at}
 use Rattle.replaying.specs.Turns.{frame_after, gone_by, frame_from, replayed}
 use Rattle.replaying.specs.Lines.{line_of, text_from, replay_text, TurnAt}
-use Rattle.replaying.proofs.Turns.{rest, rest_all, nothing, unrolled, turn_some}
+use Rattle.replaying.proofs.Turns.{gone_some, nothing, unrolled, no_text, more_text}
+use Rattle.replaying.proofs.Handed.{handed}
 use Rattle.replaying.proofs.next_line.Reads as next_line
 
 -- a reference to this, `&` and `&mut`; where it lies, and for how long, no contract speaks of
@@ -25,6 +23,13 @@ to x = record { ref_ptr = (0, 0); now = x }
 
 abbrev to_mut : {A : Type 0} → A → MutBor A
 to_mut x = record { ref_ptr = (0, 0); ghost_name = 0; now = x }
+
+-- what is left of the log at a place
+abbrev pub rest : List ℕ → ℕ → List ℕ
+rest log at = take (length log - at) (drop at log)
+
+rest_all : (log : List ℕ) (at : ℕ) → rest log at ≡ drop at log
+rest_all log at = take_all (length log - at) (drop at log) (omega (arith, length-drop at log))
 
 -- what the contract allows at a place of the log
 abbrev pub Allows : Frame → ℕ → List ℕ → List ℕ → Turn → List ℕ → Type 0
@@ -37,24 +42,6 @@ pub data Run (log : List ℕ) : Frame → ℕ → List ℕ → Frame → Type 0 
       {f g : Frame} {at : ℕ} {text : List ℕ} (before : List ℕ) (r : Turn) (area : List ℕ) → at < length log → Allows f at (rest log at) before r area →
       Run log r.frame (at + r.gone) text g → Run log f at (take r.size area ++ text) g
 
--- the line stands at the front of the area
-handed : (before w area : List ℕ) (n : ℕ) → Wrote before 0 w area n → take n area ≡ w
-handed before w area n wrote =
-    ap (take n) (wrote.area ∙ written_front before w) ∙ take_at w (drop (length w) before) n (omega (arith, wrote.place))
-
-no_text : (m : ℕ) (f : Frame) (at : ℕ) (s : List ℕ) → length s ≡ 0 → text_from m f at s ≡ []
-unfolding text_from
-no_text zero f at s e = refl
-no_text (suc m) f at s e = simp (eq-eqb _ _ e)
-
--- a turn's line, and the text of the turns after it
-more_text :
-    (m : ℕ) (f : Frame) (at : ℕ) (s : List ℕ) → (length s ≡ 0 → ⊥) →
-    text_from (suc m) f at s ≡
-    line_of f at s (record_at s) ++ text_from m (frame_after f s (record_at s)) (at + gone_by s (record_at s)) (drop (gone_by s (record_at s)) s)
-unfolding text_from
-more_text m f at s h = simp (ne_eqb _ _ h)
-
 module _ (log : List ℕ) where
   walk :
       (m : ℕ) {f g : Frame} {at : ℕ} {text : List ℕ} → length log ≤ at + m → Run log f at text g →
@@ -66,7 +53,7 @@ module _ (log : List ℕ) where
   walk (suc m) {f} {g} {at} enough (line {text = text} before r area here allowed later) =
       let s = drop at log in
       let t : TurnAt f at s before r area = rw (rest_all log at) at allowed in
-      let far : 0 < gone_by s (record_at s) = turn_some log at here in
+      let far : 0 < gone_by s (record_at s) = gone_some s (omega (arith, length-drop at log)) in
       let w = walk m (omega (arith, t.gone, far)) later in
       let left : length s ≡ 0 → ⊥ = λ e. omega (arith, e, length-drop at log) in
       let on : drop (at + r.gone) log ≡ drop (gone_by s (record_at s)) s = rw t.gone (sym (drop-drop (gone_by s (record_at s)) at log)) in

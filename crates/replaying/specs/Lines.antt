@@ -1,8 +1,9 @@
 -- docs/REPLAY.md, 'The log in bytes': the line of each call, by its kind and its answer, the line where a run stops, and the text of a whole log.
 -- Assumes nothing.
-use Rattle.std.specs.Prelude.{ℕ, zero, suc, ◌+◌, ◌≤◌, ◌≡◌, Bool, cond, List, [], ◌∷◌, ◌++◌, length, take, drop, eqb}
+use Rattle.std.specs.Prelude.{ℕ, zero, suc, ◌+◌, ◌≤◌, ◌≡◌, Bool, cond, List, [], ◌∷◌, ◌++◌, length, take, drop, eqb, Option, None, Some, Result, Ok, Err}
 use Rattle.std.specs.Float.Ieee.{to_bits}
 use Rattle.std.specs.Float.{binary32}
+use Rattle.records.specs.declared.refusal.Refusal.{Refusal}
 use Rattle.records.specs.Refusals.{refusal_says}
 use Rattle.octets.specs.Writing.{Wrote}
 use Rattle.octets.specs.Decimals.{decimal}
@@ -19,8 +20,7 @@ use Rattle.frame_log.specs.declared.EventKind.{EventKind}
 use Rattle.frame_log.specs.declared.EventKind.TheVariants as K
 use Rattle.frame_log.specs.declared.CallKind.{CallKind}
 use Rattle.frame_log.specs.declared.CallKind.TheVariants.{Begin, Other}
-use Rattle.frame_log.specs.declared.RecordRead.{RecordRead}
-use Rattle.frame_log.specs.declared.RecordRead.TheVariants.{Whole, Stop}
+use Rattle.frame_log.specs.declared.Whole.{Whole}
 use Rattle.replaying.specs.declared.Turn.{Turn}
 use Rattle.frame_log.specs.Log.{call_of, record_at}
 use Rattle.replaying.specs.Turns.{frame_after, gone_by}
@@ -65,12 +65,15 @@ reading_text Late = 0x6C ∷ 0x61 ∷ 0x74 ∷ 0x65 ∷ 0x0A ∷ []
 reading_text Missing = 0x6D ∷ 0x69 ∷ 0x73 ∷ 0x73 ∷ 0x69 ∷ 0x6E ∷ 0x67 ∷ 0x0A ∷ []
 
 -- the answer's text: b"accepted\n", a job, b"none\n", a reading, or a refusal
-abbrev pub answer_text : Answer → List ℕ
-answer_text A.Done = 0x61 ∷ 0x63 ∷ 0x63 ∷ 0x65 ∷ 0x70 ∷ 0x74 ∷ 0x65 ∷ 0x64 ∷ 0x0A ∷ []
-answer_text (A.Panel id away) = panel_text id away
-answer_text A.Rest = 0x6E ∷ 0x6F ∷ 0x6E ∷ 0x65 ∷ 0x0A ∷ []
-answer_text (A.Read r) = reading_text r
-answer_text (A.Refused f) = refused_text (refusal_says f)
+abbrev pub accepted_text : Answer → List ℕ
+accepted_text A.Done = 0x61 ∷ 0x63 ∷ 0x63 ∷ 0x65 ∷ 0x70 ∷ 0x74 ∷ 0x65 ∷ 0x64 ∷ 0x0A ∷ []
+accepted_text (A.Panel id away) = panel_text id away
+accepted_text A.Rest = 0x6E ∷ 0x6F ∷ 0x6E ∷ 0x65 ∷ 0x0A ∷ []
+accepted_text (A.Read r) = reading_text r
+
+abbrev pub answer_text : Result Answer Refusal → List ℕ
+answer_text (Ok a) = accepted_text a
+answer_text (Err r) = refused_text (refusal_says r)
 
 -- the line of a call, and the line where a run stops: b"stopped at " and the place
 unfoldable pub call_line : Frame → CallKind → List ℕ → List ℕ
@@ -83,9 +86,9 @@ unfoldable pub stopped_line : ℕ → List ℕ
 stopped_line at = stopped_word ++ decimal at ++ newline
 
 -- the line of one turn at a place, where s is what is left of the log
-abbrev pub line_of : Frame → ℕ → List ℕ → RecordRead → List ℕ
-line_of f at s (Whole k n) = call_line f k (take n s)
-line_of f at s Stop = stopped_line at
+abbrev pub line_of : Frame → ℕ → List ℕ → Option Whole → List ℕ
+line_of f at s (Some w) = call_line f w.kind (take w.size s)
+line_of f at s None = stopped_line at
 
 -- the text of the turns that are left, of which there may be `most`: their lines, one after the other
 unfoldable pub text_from : ℕ → Frame → ℕ → List ℕ → List ℕ
@@ -116,8 +119,3 @@ Shows f k s before r after = Turned (call_of f k s).frame (length s) (call_line 
 
 abbrev pub TurnAt : Frame → ℕ → List ℕ → List ℕ → Turn → List ℕ → Type 0
 TurnAt f at s before r after = Turned (frame_after f s (record_at s)) (gone_by s (record_at s)) (line_of f at s (record_at s)) before r after
-
--- what is left of a turn once its line is written out
-pub record Moved (f : Frame) (s : List ℕ) (r : Turn) : Type 0 where
-  pub frame : r.frame ≡ frame_after f s (record_at s)
-  pub gone : r.gone ≡ gone_by s (record_at s)

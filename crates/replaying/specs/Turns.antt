@@ -1,20 +1,19 @@
 -- docs/REPLAY.md, 'The log in bytes': the frame's record after a log, whose calls are made one after another from idle.
 -- Assumes nothing.
-use Rattle.std.specs.Prelude.{ℕ, zero, suc, cond, List, length, take, drop, eqb}
+use Rattle.std.specs.Prelude.{ℕ, zero, suc, cond, List, length, take, drop, eqb, Option, None, Some}
 use Rattle.frame_record.specs.declared.Frame.{Frame}
 use Rattle.frame_record.specs.Answers.{idle}
-use Rattle.frame_log.specs.declared.RecordRead.{RecordRead}
-use Rattle.frame_log.specs.declared.RecordRead.TheVariants.{Whole, Stop}
+use Rattle.frame_log.specs.declared.Whole.{Whole}
 use Rattle.frame_log.specs.Log.{call_of, record_at}
 
 -- One turn, where s is what is left of the log: the frame's record after it, and how far it goes; where the run stops, to the log's end.
-abbrev pub frame_after : Frame → List ℕ → RecordRead → Frame
-frame_after f s (Whole k n) = (call_of f k (take n s)).frame
-frame_after f s Stop = f
+abbrev pub frame_after : Frame → List ℕ → Option Whole → Frame
+frame_after f s (Some w) = (call_of f w.kind (take w.size s)).frame
+frame_after f s None = f
 
-abbrev pub gone_by : List ℕ → RecordRead → ℕ
-gone_by s (Whole k n) = n
-gone_by s Stop = length s
+abbrev pub gone_by : List ℕ → Option Whole → ℕ
+gone_by s (Some w) = w.size
+gone_by s None = length s
 
 -- the frame's record after the turns that are left, of which there may be `most`
 unfoldable pub frame_from : ℕ → Frame → List ℕ → Frame

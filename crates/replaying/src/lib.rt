@@ -1,21 +1,24 @@
 // A frame's log as text: calls read from bytes, made one after another on one record, a line written for each.
 // specs/Turns.antt has the frame's record after a log, specs/Lines.antt the line of each call and the text of a log.
-// No contract can speak of standard output: that a line's bytes go there, one line after the other, stands in `print_line` and `replay` alone.
+// `replay_to` says what any writer is handed; no contract can speak of standard output, which `replay` hands it.
 #![tactic(auto)]
 
-ghost use Rattle.std.specs.Prelude.{◌≡◌, ◌+◌, ◌≤◌, length};
+ghost use Rattle.std.specs.Prelude.{◌≡◌, ◌+◌, ◌≤◌, length, OnOk, IsOk};
+ghost use Rattle.std.specs.Io.KnownBytes.{Appends};
 ghost use Rattle.std.specs.Float.Ieee.{to_bits};
 ghost use Rattle.std.specs.Float.{binary32};
 ghost use Rattle.octets.specs.Writing.{Wrote};
 ghost use Rattle.lines.specs.Lines.{refused_room};
 ghost use Rattle.frame_log.specs.Log.{record_size};
 ghost use Rattle.replaying.specs.Turns.{replayed};
-ghost use Rattle.replaying.specs.Lines.{event_word, call_word, panel_text, pattern_text, fresh_text, reading_text, answer_text, stopped_line, line_room};
-ghost use Rattle.replaying.specs.Lines.{Shows, TurnAt, Moved};
+ghost use Rattle.replaying.specs.Lines.{call_word, panel_text, pattern_text, fresh_text, reading_text, answer_text, stopped_line, line_room};
+ghost use Rattle.replaying.specs.Lines.{Shows, TurnAt, replay_text};
 
-use frame_log::{CallKind, EventKind, RecordRead};
+use frame_log::{CallKind, EventKind, Whole};
 use frame_record::{Answer, Frame, Reading, Sample};
+use records::refusal::Refusal;
 use std::io;
+use std::io::Write;
 
 // What one turn leaves: the frame's record, how many bytes of the log it took, and how many its line has.
 #[derive(Clone, Copy)]
@@ -26,35 +29,27 @@ pub struct Turn {
 }
 
 // The pattern of a value; a NaN, which no reading has, is written as one pattern of a NaN.
+#[tactic(auto, using(crate::proofs::Patterns::nan_pattern))]
 fn pattern_of(x: f32) -> u32
     ensures { result ≡ to_bits binary32 x }
 {
-    if x == x {
-        return f32::to_bits(x);
+    if x.is_nan() {
+        return 0x7fc0_0000;
     }
-    0x7fc0_0000
+    x.to_bits()
 }
 
-fn put_event_word(out: &mut [u8], kind: EventKind) -> usize
-    requires { 7 ≤ length out.old }
-    ensures { Wrote out.old 0 (event_word kind) out.new result }
+// The word that a call's line begins with.
+fn word_of(kind: CallKind) -> &'static [u8]
+    ensures { result.now ≡ call_word kind }
 {
     match kind {
-        EventKind::Next => octets::put(out, 0, b"next "),
-        EventKind::Span => octets::put(out, 0, b"span "),
-        EventKind::Return => octets::put(out, 0, b"return "),
-        EventKind::Close => octets::put(out, 0, b"close "),
-        EventKind::Read => octets::put(out, 0, b"read "),
-    }
-}
-
-fn put_word(out: &mut [u8], kind: CallKind) -> usize
-    requires { 7 ≤ length out.old }
-    ensures { Wrote out.old 0 (call_word kind) out.new result }
-{
-    match kind {
-        CallKind::Begin => octets::put(out, 0, b"begin "),
-        CallKind::Other(k) => put_event_word(out, k),
+        CallKind::Begin => b"begin ",
+        CallKind::Other(EventKind::Next) => b"next ",
+        CallKind::Other(EventKind::Span) => b"span ",
+        CallKind::Other(EventKind::Return) => b"return ",
+        CallKind::Other(EventKind::Close) => b"close ",
+        CallKind::Other(EventKind::Read) => b"read ",
     }
 }
 
@@ -99,16 +94,16 @@ fn put_reading(out: &mut [u8], at: usize, r: Reading) -> usize
     }
 }
 
-fn put_answer(out: &mut [u8], at: usize, a: Answer) -> usize
+fn put_answer(out: &mut [u8], at: usize, a: Result<Answer, Refusal>) -> usize
     requires { at + refused_room ≤ length out.old }
     ensures { Wrote out.old at (answer_text a) out.new result }
 {
     match a {
-        Answer::Done => octets::put(out, at, b"accepted\n"),
-        Answer::Panel(id, away) => put_panel(out, at, id, away),
-        Answer::Rest => octets::put(out, at, b"none\n"),
-        Answer::Read(r) => put_reading(out, at, r),
-        Answer::Refused(f) => lines::put_refused(out, at, f),
+        Ok(Answer::Done) => octets::put(out, at, b"accepted\n"),
+        Ok(Answer::Panel(id, away)) => put_panel(out, at, id, away),
+        Ok(Answer::Rest) => octets::put(out, at, b"none\n"),
+        Ok(Answer::Read(reading)) => put_reading(out, at, reading),
+        Err(refusal) => lines::put_refused(out, at, refusal),
     }
 }
 
@@ -117,13 +112,11 @@ fn show(frame: Frame, kind: CallKind, s: &[u8], out: &mut [u8]) -> Turn
     requires { (record_size kind s.now ≡ length s.now) × (length out.old ≡ line_room) }
     ensures { Shows frame kind s.now out.old result out.new }
 {
-    let step = frame_log::called(frame, kind, s);
-    let answer = step.answer;
-    let after = step.frame;
-    let at = put_word(out, kind);
-    let size = put_answer(out, at, answer);
+    let called = frame_log::called(frame, kind, s);
+    let at = octets::put(out, 0, word_of(kind));
+    let size = put_answer(out, at, called.answer);
     Turn {
-        frame: after,
+        frame: called.frame,
         gone: s.len(),
         size,
     }
@@ -142,7 +135,7 @@ fn next_line(frame: Frame, at: usize, s: &[u8], out: &mut [u8]) -> Turn
     requires { length out.old ≡ line_room }
     ensures { TurnAt frame at s.now out.old result out.new }
 {
-    let RecordRead::Whole(kind, size) = frame_log::record_at(s) else {
+    let Some(Whole { kind, size }) = frame_log::record_at(s) else {
         let line = put_stopped(out, at);
         return Turn {
             frame,
@@ -160,39 +153,36 @@ pub struct Replayed {
     pub written: io::Result<()>,
 }
 
-// Makes one turn and writes its line in one piece, unless a line before could not be written: a text with a hole would read as a whole one.
-fn print_line(
-    rt: &impl Print,
-    written: io::Result<()>,
-    frame: Frame,
-    at: usize,
-    s: &[u8],
-) -> (Turn, io::Result<()>)
-    ensures { Moved frame s.now result.0 }
+// Hands a line out in one piece, unless a line before could not be written: a text with a hole would read as a whole one.
+fn hand_out<W: Write>(to: &mut W, written: io::Result<()>, line: &[u8]) -> io::Result<()>
+    ensures { OnOk result (IsOk written × Appends (W.contents to.old) (W.contents to.new) line.now) }
 {
-    let mut out = [0u8; 64];
-    let turn = next_line(frame, at, s, &mut out);
-    let size = turn.size;
-    if written.is_err() {
-        return (turn, written);
-    }
-    (turn, rt.write_all(&out[..size]))
+    written?;
+    to.write_all(line)
 }
 
 // Makes the calls of a log from idle and writes a line for each, up to a record of unknown kind or with its body cut.
 // The calls are made also where a line cannot be written; the only error is that of the first such line.
-pub fn replay(rt: &impl Print, log: &[u8]) -> Replayed
-    ensures { result.frame ≡ replayed log.now }
+pub fn replay_to<W: Write>(to: &mut W, log: &[u8]) -> Replayed
+    ensures frame { result.frame ≡ replayed log.now }
+    ensures text { OnOk result.written (Appends (W.contents to.old) (W.contents to.new) (replay_text log.now)) }
 {
     let mut frame = Frame::idle();
     let mut written = Ok(());
-    let mut at = 0;
-    while at < log.len() {
-        let rest = &log[at..];
-        let (turn, after) = print_line(rt, written, frame, at, rest);
-        written = after;
+    let mut rest = log;
+    while !rest.is_empty() {
+        let mut line = [0u8; 64];
+        let turn = next_line(frame, log.len() - rest.len(), rest, &mut line);
+        written = hand_out(to, written, &line[..turn.size]);
         frame = turn.frame;
-        at += turn.gone;
+        rest = &rest[turn.gone..];
     }
     Replayed { frame, written }
+}
+
+// The same, to standard output.
+pub fn replay(rt: &impl Print, log: &[u8]) -> Replayed
+    ensures { result.frame ≡ replayed log.now }
+{
+    replay_to(&mut io::writer(rt), log)
 }

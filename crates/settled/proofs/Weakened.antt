@@ -1,5 +1,6 @@
 -- What a weakened contract would come to: it does not settle. Shown of a check that may give a second answer, and of a call on a lent record that
 -- does not say which record is left. Functions.antt goes by the contracts' own text, so such an `ensures` would fail there. Assumes nothing.
+use Rattle.std.specs.Prelude.{Err}
 use mathlib.Core.Path.{◌≡◌, refl, ap}
 use mathlib.Core.Logic.{◌⊎◌, inl, inr}
 use mathlib.Core.List.{[]}
@@ -10,7 +11,6 @@ use Rattle.model.proofs.Lists.{clash}
 use Rattle.records.specs.Records.{judged}
 use Rattle.table.specs.Tables.{read_table, frame_at}
 use Rattle.records.specs.declared.refusal.Refusal.TheVariants.{Late, Phase}
-use Rattle.judge.specs.declared.Checked.TheVariants.{Fails}
 use Rattle.judge.specs.Check.{check_plan}
 use Rattle.judge.proofs as judge
 use Rattle.judge.specs.contracts as judge_contracts
@@ -27,12 +27,12 @@ use Rattle.frame_promises.specs.Lent.{CallIn}
 
 -- the check, with LATE allowed for all
 abbrev OrLate : Tells judge_contracts.check_plan.ended
-OrLate κs i r e = judge.check_plan.Reads.Learnt κs i r e ⊎ (r ≡ Fails Late)
+OrLate κs i r e = judge.check_plan.Reads.Learnt κs i r e ⊎ (r ≡ Err Late)
 
 pub second_answer : ¬ (Settles judge_contracts.check_plan.ended OrLate)
 unfolding check_plan read_table frame_at judged
 second_answer settles =
-    let both = settles ([], ([], tt)) (to [], (to [], tt)) (check_plan [] []) (Fails Late) (tt, (tt, tt)) (tt, (tt, tt)) (inl refl) (inr refl) in
+    let both = settles ([], ([], tt)) (to [], (to [], tt)) (check_plan [] []) (Err Late) (tt, (tt, tt)) (tt, (tt, tt)) (inl refl) (inr refl) in
     clash (cc both.0)
 
 -- a call whose answer is right for some record afterwards, whatever record is left

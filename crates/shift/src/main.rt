@@ -134,19 +134,17 @@ fn event_of(number: u32, k: u32) -> Event {
 }
 
 // Where the answer to a call that is no read counts: 13 is due to an old answer alone.
-fn place_of(answer: Answer) -> usize {
+fn place_of(answer: Result<Answer, Refusal>) -> usize {
     match answer {
-        Answer::Refused(f) => match f {
-            Refusal::Number => OLD_REFUSED,
-            _ => OTHER_REFUSED,
-        },
-        _ => ACCEPTED,
+        Ok(_) => ACCEPTED,
+        Err(Refusal::Number) => OLD_REFUSED,
+        Err(_) => OTHER_REFUSED,
     }
 }
 
 // Where the answer to a read counts: a fresh reading is held to this frame's number and this job's value in it.
-fn reading_place(answer: Answer, number: u32, id: u8) -> usize {
-    let Answer::Read(reading) = answer else {
+fn reading_place(answer: Result<Answer, Refusal>, number: u32, id: u8) -> usize {
+    let Ok(Answer::Read(reading)) = answer else {
         return OTHER_REFUSED;
     };
     match reading {

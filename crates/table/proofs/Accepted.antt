@@ -10,8 +10,9 @@ use Rattle.model.specs.declared.Job.{Job}
 use Rattle.model.specs.Lists.{All}
 use Rattle.model.specs.Positions.{no_job}
 use Rattle.model.proofs.Lists.{clash, all_append}
+use Rattle.std.specs.Prelude.{Result}
+use Rattle.records.specs.declared.refusal.Refusal.{Refusal}
 use Rattle.records.specs.declared.refusal.Place.{Place}
-use Rattle.table.specs.declared.FrameRead.{FrameRead}
 use Rattle.records.specs.Limits.{most_jobs, largest_time}
 use Rattle.records.specs.Refusals.{start, past, Outcome, accepted, refused}
 use Rattle.records.specs.Records.{one}
@@ -34,7 +35,7 @@ with_deadline_lem D (refused f) t e = clash (cc)
 pub accepted_read : (s : List ℕ) (t : JobTable) → read_table s ≡ accepted t → Read s t
 unfolding read_table
 accepted_read s t e =
-    frame_all s start (λ (a : FrameRead). after_frame s a ≡ accepted t → Read s t)
+    frame_all s start (λ (a : Result (ℕ × Place) Refusal). after_frame s a ≡ accepted t → Read s t)
     (λ f x. clash (cc))
     (λ kind whole low high x.
     let r = with_deadline_lem _ _ t x in

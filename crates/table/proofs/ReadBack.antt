@@ -14,15 +14,15 @@ use Rattle.octets.proofs.Numbers.{byte_from, two_from, two_whole}
 use Rattle.records.specs.declared.refusal.Place.{Place}
 use Rattle.records.specs.declared.kind.RowKind.{RowKind}
 use Rattle.records.specs.declared.kind.RowKind.TheVariants.{HereRow, EitherRow, EndRow}
-use Rattle.table.specs.declared.FrameRead.TheVariants.{FrameIs, FrameRefused}
-use Rattle.table.specs.declared.JobRead.TheVariants.{JobRefused}
+use Rattle.records.specs.declared.kind.FrameKind.{FrameKind}
+use Rattle.std.specs.Prelude.{Ok, Err}
 use Rattle.records.specs.Limits.{most_jobs, largest_time}
 use Rattle.records.specs.Refusals.{start, past, accepted}
 use Rattle.records.specs.Kinds.{table_end}
-use Rattle.records.specs.Records.{form_of, frame_only, row_only, one, last}
-use Rattle.table.specs.Tables.{JobTable, TimesOk, GoodTable, deadline_at, frame_at, row_body, job_at, job_parsed, job_id, jobs_read, read_table, sending_bytes}
+use Rattle.records.specs.Records.{form_of, frame_only, row_only, one, last, parsed}
+use Rattle.table.specs.Tables.{JobTable, TimesOk, GoodTable, deadline_at, frame_at, row_body, job_at, job_id, jobs_read, read_table, sending_bytes}
 use Rattle.table.specs.Tables.{job_bytes, table_bytes}
-use Rattle.records.proofs.Records.{row_byte, row_length, frame_form, row_form, opened}
+use Rattle.records.proofs.Records.{row_byte, row_length, frame_form, row_form, whole}
 use Rattle.records.proofs.Listed.{over, listed_back}
 use Rattle.table.proofs.Tables.{row_parsed}
 use Rattle.table.proofs.Written.{jobs_flat}
@@ -37,11 +37,11 @@ module _ (s : List ℕ) (p : Place) (l : List ℕ) (from : drop p.at s ≡ l) wh
 
   -- a whole row is read
   pub row_open :
-      (n : ℕ) (k : RowKind) → get_or l 0 0 ≡ row_byte k → 1 + row_length k ≤ length l → row_parsed s p n ≡ job_parsed (row_body s p n (past p (row_length k)) k)
+      (n : ℕ) (k : RowKind) → get_or l 0 0 ≡ row_byte k → 1 + row_length k ≤ length l → row_parsed s p n ≡ parsed (row_body s p n (past p (row_length k)) k)
   unfolding job_at
   row_open n k b h =
-      ap job_parsed
-      (opened JobRefused (row_body s p n) row_only s p (sym (ap form_of (kind_byte ∙ b) ∙ row_form k)) (omega (arith, long)) k refl (omega (arith, long)))
+      ap parsed
+      (whole Err (row_body s p n) row_only s p (ap form_of (kind_byte ∙ b) ∙ row_form k) (omega (arith, long)) k refl (omega (arith, long)))
 
 -- a job's record has bytes
 pub job_any : (j : Job) → 1 ≤ length (job_bytes j)
@@ -80,11 +80,11 @@ job_back s p n rest id C (Either S I) from ok few =
 pub end_back : (s : List ℕ) (p : Place) (n : ℕ) (more : List ℕ) → drop p.at s ≡ table_end ∷ more → row_parsed s p n ≡ last (past p 0)
 end_back s p n more from = row_open s p (table_end ∷ more) from n EndRow refl (omega arith)
 
-frame_back : (t : JobTable) → GoodTable t → frame_at (table_bytes t) start ≡ FrameIs t.deadline (past start 2)
+frame_back : (t : JobTable) → GoodTable t → frame_at (table_bytes t) start ≡ Ok (t.deadline, past start 2)
 unfolding table_bytes frame_at
 frame_back t good =
     let s = table_bytes t in
-    opened FrameRefused (λ (next : Place) (u : Unit {0}). deadline_at s start next) frame_only s start (sym frame_form) (omega arith) tt refl (omega arith) ∙
+    whole Err (λ (next : Place) (k : FrameKind). deadline_at s start next) frame_only s start frame_form (omega arith) (record {}) refl (omega arith) ∙
     simp (two_whole t.deadline, lt-ltb _ _ good.low, le-leb _ _ good.high)
 
 pub bytes_read : (t : JobTable) → GoodTable t → read_table (table_bytes t) ≡ accepted t

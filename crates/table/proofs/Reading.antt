@@ -4,10 +4,9 @@ use mathlib.Core.Path.{◌≡◌, refl, sym, ap, subst, ◌∙◌}
 use mathlib.Core.List.{List}
 use Prim.Native.Nat.{ℕ}
 use Rattle.model.proofs.Lists.{clash}
+use Rattle.std.specs.Prelude.{Result, Ok, Err}
 use Rattle.records.specs.declared.refusal.Refusal.{Refusal}
 use Rattle.table.specs.declared.Table.{Table}
-use Rattle.table.specs.declared.TableVerdict.TheVariants.{Whole, Refused}
-use Rattle.table.specs.declared.TableRead.{TableRead}
 use Rattle.records.specs.Refusals.{Outcome, accepted, refused}
 use Rattle.table.specs.Tables.{JobTable, read_table, table_read, job_table, table_of, Sound}
 use Rattle.table.proofs.Accepted.{accepted_good, held_table, held_sound}
@@ -17,19 +16,19 @@ pub record WholeRead (s : List ℕ) (u : Table) : Type 0 where
   pub is : read_table s ≡ accepted (job_table u)
   pub sound : Sound u
 
-module _ (s : List ℕ) (r : TableRead) (e : r ≡ table_read (read_table s)) where
-  pub read_refused : (f : Refusal) → r.verdict ≡ Refused f → read_table s ≡ refused f
-  read_refused f h = step (read_table s) refl (sym (ap (λ (x : TableRead). x.verdict) e) ∙ h)
+module _ (s : List ℕ) (r : Result Table Refusal) (e : r ≡ table_read (read_table s)) where
+  pub read_refused : (f : Refusal) → r ≡ Err f → read_table s ≡ refused f
+  read_refused f h = step (read_table s) refl (sym e ∙ h)
     where
-      step : (o : Outcome JobTable) → read_table s ≡ o → (table_read o).verdict ≡ Refused f → read_table s ≡ refused f
+      step : (o : Outcome JobTable) → read_table s ≡ o → table_read o ≡ Err f → read_table s ≡ refused f
       step (accepted t) q k = clash (cc)
       step (refused g) q k = let p : g ≡ f = cc in q ∙ ap refused p
 
-  pub read_whole : r.verdict ≡ Whole → WholeRead s r.table
-  read_whole h = step (read_table s) refl (sym (ap (λ (x : TableRead). x.verdict) e) ∙ h)
+  pub read_whole : (u : Table) → r ≡ Ok u → WholeRead s u
+  read_whole u h = step (read_table s) refl (sym e ∙ h)
     where
-      step : (o : Outcome JobTable) → read_table s ≡ o → (table_read o).verdict ≡ Whole → WholeRead s r.table
+      step : (o : Outcome JobTable) → read_table s ≡ o → table_read o ≡ Ok u → WholeRead s u
       step (accepted t) q k =
-          let u : r.table ≡ table_of t.deadline t.jobs = ap (λ (x : TableRead). x.table) (e ∙ ap table_read q) in
-          subst (WholeRead s) (sym u) (record { is = q ∙ ap accepted (sym (held_table t)); sound = held_sound t (accepted_good s t q) })
+          let is : table_of t.deadline t.jobs ≡ u = cc in
+          subst (WholeRead s) is (record { is = q ∙ ap accepted (sym (held_table t)); sound = held_sound t (accepted_good s t q) })
       step (refused g) q k = clash (cc)

@@ -1,6 +1,6 @@
 -- Document 01, 'Bytes': "A table is one 0x10 first, 0 to 32 jobs with distinct ids, one 0x1F, nothing after."
 -- `read_table` says what a byte string means as a table, or which refusal it gets. Assumes nothing.
-use Rattle.std.specs.Prelude.{ℕ, suc, ◌+◌, ◌-◌, ◌≤◌, ◌≡◌, Bool, true, false, cond, ◌&&◌, List, [], ◌∷◌, ◌++◌, length, get_or, take, replicate, ltb, leb}
+use Rattle.std.specs.Prelude.{ℕ, suc, ◌+◌, ◌-◌, ◌≤◌, ◌≡◌, Bool, cond, ◌&&◌, List, [], ◌∷◌, ◌++◌, length, get_or, take, replicate, ltb, leb, Result, Ok, Err}
 use Rattle.model.specs.declared.Sending.{Sending}
 use Rattle.model.specs.declared.Sending.TheVariants.{HereOnly, Either}
 use Rattle.model.specs.declared.Job.{Job}
@@ -10,21 +10,18 @@ use Rattle.model.specs.Timetable.{setup_time, return_time, Chosen}
 use Rattle.model.specs.FreeOrder.{busy}
 use Rattle.octets.specs.Numbers.{two_at, two_bytes}
 use Rattle.records.specs.declared.refusal.Place.{Place}
-use Rattle.records.specs.declared.refusal.Refusal.TheVariants.{Range, Many, After}
+use Rattle.records.specs.declared.refusal.Refusal.{Refusal}
+use Rattle.records.specs.declared.refusal.Refusal.TheVariants.{Range, Many}
+use Rattle.records.specs.declared.kind.FrameKind.{FrameKind}
 use Rattle.records.specs.declared.kind.RowKind.{RowKind}
 use Rattle.records.specs.declared.kind.RowKind.TheVariants.{HereRow, EitherRow, EndRow}
+use Rattle.records.specs.declared.record.Record.{Record}
+use Rattle.records.specs.declared.record.Record.TheVariants.{Listed, Last}
 use Rattle.table.specs.declared.Table.{Table}
-use Rattle.table.specs.declared.FrameRead.{FrameRead}
-use Rattle.table.specs.declared.FrameRead.TheVariants.{FrameIs, FrameRefused}
-use Rattle.table.specs.declared.JobRead.{JobRead}
-use Rattle.table.specs.declared.JobRead.TheVariants.{JobIs, JobsEnd, JobRefused}
-use Rattle.table.specs.declared.TableVerdict.{TableVerdict}
-use Rattle.table.specs.declared.TableVerdict.TheVariants.{Whole, Refused}
-use Rattle.table.specs.declared.TableRead.{TableRead}
 use Rattle.records.specs.Limits.{most_jobs, largest_time}
 use Rattle.records.specs.Refusals.{start, refusal_says, Outcome, accepted, refused}
 use Rattle.records.specs.Kinds.{frame_kind, here_kind, either_kind, table_end}
-use Rattle.records.specs.Records.{frame_only, row_only, judged, Parsed, one, last, bad, list_from}
+use Rattle.records.specs.Records.{frame_only, row_only, judged, parsed, list_from}
 
 -- What a table means: a deadline and its jobs.
 pub record JobTable : Type 0 where
@@ -43,14 +40,18 @@ run_busy t cs = busy cs
 abbrev pub time_ok : ℕ → Bool
 time_ok t = leb t largest_time
 
+-- a time of the record at a place, so many bytes behind its kind byte
+abbrev pub time_at : List ℕ → Place → ℕ → Result ℕ Refusal
+time_at s p behind = cond (time_ok (two_at s (p.at + behind))) (Ok (two_at s (p.at + behind))) (Err (Range p))
+
 -- The first record: D, and the place of the record after it.
-abbrev pub deadline_at : List ℕ → Place → Place → FrameRead
+abbrev pub deadline_at : List ℕ → Place → Place → Result (ℕ × Place) Refusal
 deadline_at s p next =
     let D = two_at s (p.at + 1) in
-    cond (ltb 0 D && time_ok D) (FrameIs D next) (FrameRefused (Range p))
+    cond (ltb 0 D && time_ok D) (Ok (D, next)) (Err (Range p))
 
-unfoldable pub frame_at : List ℕ → Place → FrameRead
-frame_at s p = judged FrameRefused (λ (next : Place) (u : Unit {0}). deadline_at s p next) frame_only s p
+unfoldable pub frame_at : List ℕ → Place → Result (ℕ × Place) Refusal
+frame_at s p = judged Err (λ (next : Place) (k : FrameKind). deadline_at s p next) frame_only s p
 
 -- The bodies of the two kinds of job, once they are whole: "here-only: id, C", "either: id, C, S, I".
 abbrev pub here_at : List ℕ → Place → Job
@@ -59,45 +60,39 @@ here_at s p = record { id = get_or s (p.at + 1) 0; local = two_at s (p.at + 2); 
 abbrev pub either_at : List ℕ → Place → Job
 either_at s p = record { id = get_or s (p.at + 1) 0; local = two_at s (p.at + 2); sending = Either (two_at s (p.at + 4)) (two_at s (p.at + 6)) }
 
-abbrev pub here_job : List ℕ → Place → Place → JobRead
-here_job s p next = cond (time_ok (two_at s (p.at + 2))) (JobIs (here_at s p) next) (JobRefused (Range p))
+abbrev pub here_job : List ℕ → Place → Place → Result (Record Job) Refusal
+here_job s p next = cond (time_ok (two_at s (p.at + 2))) (Ok (Listed (here_at s p) next)) (Err (Range p))
 
-abbrev pub either_job : List ℕ → Place → Place → JobRead
+abbrev pub either_job : List ℕ → Place → Place → Result (Record Job) Refusal
 either_job s p next =
     cond (time_ok (two_at s (p.at + 2)) && (time_ok (two_at s (p.at + 4)) && time_ok (two_at s (p.at + 6))))
-    (JobIs (either_at s p) next)
-    (JobRefused (Range p))
+    (Ok (Listed (either_at s p) next))
+    (Err (Range p))
 
 -- "33rd job MANY; RANGE", where `count` jobs stand before
-abbrev pub row_body : List ℕ → Place → ℕ → Place → RowKind → JobRead
-row_body s p count next HereRow = cond (ltb count most_jobs) (here_job s p next) (JobRefused (Many p))
-row_body s p count next EitherRow = cond (ltb count most_jobs) (either_job s p next) (JobRefused (Many p))
-row_body s p count next EndRow = JobsEnd next
+abbrev pub row_body : List ℕ → Place → ℕ → Place → RowKind → Result (Record Job) Refusal
+row_body s p count next HereRow = cond (ltb count most_jobs) (here_job s p next) (Err (Many p))
+row_body s p count next EitherRow = cond (ltb count most_jobs) (either_job s p next) (Err (Many p))
+row_body s p count next EndRow = Ok (Last next)
 
-unfoldable pub job_at : List ℕ → Place → ℕ → JobRead
-job_at s p count = judged JobRefused (row_body s p count) row_only s p
-
--- a record's answer as the reading of one record
-abbrev pub job_parsed : JobRead → Parsed Job
-job_parsed (JobIs j next) = one j next
-job_parsed (JobsEnd next) = last next
-job_parsed (JobRefused f) = bad f
+unfoldable pub job_at : List ℕ → Place → ℕ → Result (Record Job) Refusal
+job_at s p count = judged Err (row_body s p count) row_only s p
 
 abbrev pub job_id : Job → ℕ
 job_id j = j.id
 
 -- "0 to 32 jobs with distinct ids, one 0x1F, nothing after": the records from a place on, which is where the first one ends
 unfoldable pub jobs_read : List ℕ → Place → Outcome (List Job)
-jobs_read s = list_from job_id (λ (p : Place) (count : ℕ). job_parsed (job_at s p count)) (length s) (suc most_jobs) []
+jobs_read s = list_from job_id (λ (p : Place) (count : ℕ). parsed (job_at s p count)) (length s) (suc most_jobs) []
 
 -- the jobs, with the deadline beside them
 abbrev pub with_deadline : ℕ → Outcome (List Job) → Outcome JobTable
 with_deadline D (accepted js) = accepted (record { deadline = D; jobs = js })
 with_deadline D (refused f) = refused f
 
-abbrev pub after_frame : List ℕ → FrameRead → Outcome JobTable
-after_frame s (FrameIs D next) = with_deadline D (jobs_read s next)
-after_frame s (FrameRefused f) = refused f
+abbrev pub after_frame : List ℕ → Result (ℕ × Place) Refusal → Outcome JobTable
+after_frame s (Ok r) = with_deadline r.0 (jobs_read s r.1)
+after_frame s (Err f) = refused f
 
 unfoldable pub read_table : List ℕ → Outcome JobTable
 read_table s = after_frame s (frame_at s start)
@@ -134,23 +129,15 @@ pub record Sound (t : Table) : Type 0 where
   pub few : t.count ≤ most_jobs
   pub good : GoodTable (job_table t)
 
--- what `read_table` answers: the verdict, and the table, which is the empty one with a refusal
-abbrev pub table_read : Outcome JobTable → TableRead
-table_read (accepted t) = record { verdict = Whole; table = table_of t.deadline t.jobs }
-table_read (refused f) = record { verdict = Refused f; table = empty_table }
+-- what `read_table` answers: the table as the code holds it, or the refusal
+abbrev pub table_read : Outcome JobTable → Result Table Refusal
+table_read (accepted t) = Ok (table_of t.deadline t.jobs)
+table_read (refused f) = Err f
 
 -- number and values of the reader's verdict: 0 for a table, else the refusal's
-abbrev pub verdict_says : TableVerdict → List ℕ
-verdict_says Whole = 0 ∷ []
-verdict_says (Refused f) = refusal_says f
-
--- what `ended_at` answers: "After the end record, AFTER"
-unfoldable pub end_verdict : List ℕ → Place → TableVerdict
-end_verdict s p = cond (leb (length s) p.at) Whole (Refused (After p))
-
-abbrev pub is_whole : TableVerdict → Bool
-is_whole Whole = true
-is_whole (Refused f) = false
+abbrev pub verdict_says : Result Table Refusal → List ℕ
+verdict_says (Ok t) = 0 ∷ []
+verdict_says (Err f) = refusal_says f
 
 -- The bytes of a table: the one byte string that reads as it.
 

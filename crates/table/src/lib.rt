@@ -3,11 +3,12 @@
 
 ghost use Rattle.std.specs.Prelude.{◌≡◌, ◌+◌, ◌<◌, ◌≤◌, length};
 ghost use Rattle.records.specs.Limits.{most_jobs, largest_time, longest_table, longest_plan};
-ghost use Rattle.table.specs.Tables.{frame_at, here_job, either_job, job_at, after_frame, read_table, empty_table, table_read, end_verdict, is_whole};
+ghost use Rattle.table.specs.Tables.{time_at, frame_at, here_job, either_job, job_at, jobs_read, with_deadline, read_table, empty_table, table_read};
 
 use model::{Job, Sending};
-use records::kind;
-use records::kind::{Meaning, RowKind};
+use records::kind::{FrameKind, RowKind};
+use records::record;
+use records::record::Record;
 use records::refusal::{Place, Refusal};
 
 #[derive(Clone, Copy)]
@@ -72,205 +73,102 @@ impl Table {
     }
 }
 
-// The deadline with the place of the record after it; or a refusal.
-#[derive(Clone, Copy)]
-pub enum FrameRead {
-    FrameIs(u16, Place),
-    FrameRefused(Refusal),
+// A time of the record at a place, so many bytes behind its kind byte.
+fn time_at(s: &[u8], p: Place, behind: usize) -> Result<u16, Refusal>
+    requires { p.at + behind + 1 < length s.now }
+    ensures { result ≡ time_at s.now p behind }
+{
+    let time = octets::two_at(s, p.at + behind);
+    if Table::LARGEST_TIME < time {
+        return Err(Refusal::Range(p));
+    }
+    Ok(time)
 }
 
-// A job with the place of the record after it; the end record with the place after it; or a refusal.
-#[derive(Clone, Copy)]
-pub enum JobRead {
-    JobIs(Job, Place),
-    JobsEnd(Place),
-    JobRefused(Refusal),
-}
-
-#[derive(Clone, Copy)]
-pub enum TableVerdict {
-    Whole,
-    Refused(Refusal),
-}
-
-// An enum does not hold an array, so the table stands beside the verdict: the empty one with a refusal.
-#[derive(Clone, Copy)]
-pub struct TableRead {
-    pub verdict: TableVerdict,
-    pub table: Table,
-}
-
-// The record at a place where a table begins.
-fn frame_at(s: &[u8], p: Place) -> FrameRead
+// The record at a place where a table begins: the deadline, and the place of the record after it.
+fn frame_at(s: &[u8], p: Place) -> Result<(u16, Place), Refusal>
     ensures { result ≡ frame_at s.now p }
 {
-    let at = p.at;
-    if s.len() <= at {
-        return FrameRead::FrameRefused(Refusal::Short(p));
+    let frame = record::opened::<FrameKind>(s, p)?;
+    let deadline = time_at(s, p, 1)?;
+    if deadline == 0 {
+        return Err(Refusal::Range(p));
     }
-    let form = kind::form_of(s[at]);
-    let meaning = form.meaning;
-    let body = form.body;
-    let Meaning::Frame = meaning else {
-        return FrameRead::FrameRefused(Refusal::Kind(p));
-    };
-    if s.len() - (at + 1) < body {
-        return FrameRead::FrameRefused(Refusal::Short(p));
-    }
-    let next = p.past(body);
-    let d = octets::two_at(s, at + 1);
-    if d == 0 {
-        return FrameRead::FrameRefused(Refusal::Range(p));
-    }
-    if Table::LARGEST_TIME < d {
-        return FrameRead::FrameRefused(Refusal::Range(p));
-    }
-    FrameRead::FrameIs(d, next)
+    Ok((deadline, frame.next))
 }
 
-fn here_job(s: &[u8], p: Place, next: Place) -> JobRead
+fn here_job(s: &[u8], p: Place, next: Place) -> Result<Record<Job>, Refusal>
     requires { p.at + 3 < length s.now }
     ensures { result ≡ here_job s.now p next }
 {
-    let at = p.at;
-    let local = octets::two_at(s, at + 2);
-    if local <= Table::LARGEST_TIME {
-        JobRead::JobIs(
-            Job {
-                id: s[at + 1],
-                local,
-                sending: Sending::HereOnly,
-            },
-            next,
-        )
-    } else {
-        JobRead::JobRefused(Refusal::Range(p))
-    }
+    let job = Job {
+        id: s[p.at + 1],
+        local: time_at(s, p, 2)?,
+        sending: Sending::HereOnly,
+    };
+    Ok(Record::Listed(job, next))
 }
 
-fn either_job(s: &[u8], p: Place, next: Place) -> JobRead
+fn either_job(s: &[u8], p: Place, next: Place) -> Result<Record<Job>, Refusal>
     requires { p.at + 7 < length s.now }
     ensures { result ≡ either_job s.now p next }
 {
-    let at = p.at;
-    let local = octets::two_at(s, at + 2);
-    let setup = octets::two_at(s, at + 4);
-    let back = octets::two_at(s, at + 6);
-    if Table::LARGEST_TIME < local {
-        return JobRead::JobRefused(Refusal::Range(p));
-    }
-    if Table::LARGEST_TIME < setup {
-        return JobRead::JobRefused(Refusal::Range(p));
-    }
-    if Table::LARGEST_TIME < back {
-        return JobRead::JobRefused(Refusal::Range(p));
-    }
-    JobRead::JobIs(
-        Job {
-            id: s[at + 1],
-            local,
-            sending: Sending::Either { setup, back },
+    let job = Job {
+        id: s[p.at + 1],
+        local: time_at(s, p, 2)?,
+        sending: Sending::Either {
+            setup: time_at(s, p, 4)?,
+            back: time_at(s, p, 6)?,
         },
-        next,
-    )
+    };
+    Ok(Record::Listed(job, next))
 }
 
 // The record at a place after the first, where `count` jobs stand before it.
-fn job_at(s: &[u8], p: Place, count: usize) -> JobRead
+fn job_at(s: &[u8], p: Place, count: usize) -> Result<Record<Job>, Refusal>
     ensures { result ≡ job_at s.now p count }
 {
-    let at = p.at;
-    if s.len() <= at {
-        return JobRead::JobRefused(Refusal::Short(p));
-    }
-    let form = kind::form_of(s[at]);
-    let meaning = form.meaning;
-    let body = form.body;
-    let Meaning::Row(row) = meaning else {
-        return JobRead::JobRefused(Refusal::Kind(p));
-    };
-    if s.len() - (at + 1) < body {
-        return JobRead::JobRefused(Refusal::Short(p));
-    }
-    let next = p.past(body);
-    match row {
-        RowKind::EndRow => JobRead::JobsEnd(next),
-        RowKind::HereRow => {
-            if Table::MOST_JOBS <= count {
-                return JobRead::JobRefused(Refusal::Many(p));
-            }
-            here_job(s, p, next)
-        }
-        RowKind::EitherRow => {
-            if Table::MOST_JOBS <= count {
-                return JobRead::JobRefused(Refusal::Many(p));
-            }
-            either_job(s, p, next)
-        }
+    let row = record::opened::<RowKind>(s, p)?;
+    match row.kind {
+        RowKind::EndRow => Ok(Record::Last(row.next)),
+        _ if Table::MOST_JOBS <= count => Err(Refusal::Many(p)),
+        RowKind::HereRow => here_job(s, p, row.next),
+        RowKind::EitherRow => either_job(s, p, row.next),
     }
 }
 
-// Nothing may stand after the end record.
-fn ended_at(s: &[u8], p: Place) -> TableVerdict
-    ensures { result ≡ end_verdict s.now p }
+// The jobs behind a frame record; `seen` tells the ids that stand before.
+fn jobs_from(s: &[u8], deadline: u16, first: Place) -> Result<Table, Refusal>
+    ensures { result ≡ table_read (with_deadline deadline (jobs_read s.now first)) }
 {
-    if s.len() <= p.at {
-        TableVerdict::Whole
-    } else {
-        TableVerdict::Refused(Refusal::After(p))
-    }
-}
-
-fn is_whole(verdict: TableVerdict) -> bool
-    ensures { result ≡ is_whole verdict }
-{
-    match verdict {
-        TableVerdict::Whole => true,
-        TableVerdict::Refused(_) => false,
-    }
-}
-
-// The jobs behind a frame record; `seen` tells the ids that stand before. A refusal clears the table in place, and there is one way out: a second table,
-// made in another branch, would cost a copy of the whole table, field by field.
-fn table_from(s: &[u8], first: FrameRead) -> TableRead
-    ensures { result ≡ table_read (after_frame s.now first) }
-{
-    let nothing = Table::empty();
-    let mut t = nothing;
+    let mut t = Table::empty();
+    t.deadline = deadline;
     let mut seen = [false; 256];
-    let verdict = match first {
-        FrameRead::FrameRefused(f) => TableVerdict::Refused(f),
-        FrameRead::FrameIs(deadline, next) => {
-            t.deadline = deadline;
-            let mut p = next;
-            loop {
-                match job_at(s, p, t.count) {
-                    JobRead::JobIs(j, after) => {
-                        let id = j.id as usize;
-                        if seen[id] {
-                            break TableVerdict::Refused(Refusal::Twice(p));
-                        }
-                        seen[id] = true;
-                        let n = t.count;
-                        t.jobs[n] = j;
-                        t.count = n + 1;
-                        p = after;
-                    }
-                    JobRead::JobsEnd(after) => break ended_at(s, after),
-                    JobRead::JobRefused(f) => break TableVerdict::Refused(f),
+    let mut p = first;
+    loop {
+        match job_at(s, p, t.count)? {
+            Record::Listed(job, next) => {
+                let id = job.id as usize;
+                if seen[id] {
+                    return Err(Refusal::Twice(p));
                 }
+                seen[id] = true;
+                t.jobs[t.count] = job;
+                t.count += 1;
+                p = next;
+            }
+            Record::Last(next) => {
+                record::ended_at(s, next)?;
+                return Ok(t);
             }
         }
-    };
-    if !is_whole(verdict) {
-        t = nothing;
     }
-    TableRead { verdict, table: t }
 }
 
 // Reads any bytes as a table.
-pub fn read_table(s: &[u8]) -> TableRead
+pub fn read_table(s: &[u8]) -> Result<Table, Refusal>
     ensures { result ≡ table_read (read_table s.now) }
 {
-    table_from(s, frame_at(s, Place::start()))
+    let (deadline, first) = frame_at(s, Place::start())?;
+    jobs_from(s, deadline, first)
 }

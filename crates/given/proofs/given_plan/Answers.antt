@@ -1,49 +1,17 @@
 -- `given::given_plan` meets its contract; what its loop keeps stands in Invariants.antt. Assumes nothing.
-use mathlib.Core.Path.{◌≡◌, refl, sym, ◌∙◌}
-use mathlib.Core.Bool.{false}
+use mathlib.Core.Path.{refl, sym, ◌∙◌}
 use native.Mathlib.Omega.{arith}
-use borrow.Author.Rules.{rules}
-use lib.ListN.{length, take}
-use lib.Seq.{get_or-take, length-take-le}
-use Rattle.records.specs.Limits.{most_jobs}
-use Rattle.given.proofs.Going.{going_begin, going_room, going_none, going_more, going_end}
-use Rattle.given.proofs.given_plan.Goals.{Start}
+use lib.ListN.{length-take}
+use Rattle.std.proofs.Common.{rules}
+use Rattle.given.proofs.Going.{going_none, going_more}
 use Rattle.given.proofs.given_plan.Goals as goal
 
--- as many jobs stand there as are counted
-counted : (s : Start) → length (take s.args.t.count s.args.t.jobs) ≡ s.args.t.count
-counted s =
-    let full : length s.args.t.jobs ≡ most_jobs = search rules in
-    length-take-le s.args.t.count s.args.t.jobs (omega (arith, s.requires))
+pub returns-in_err-away : goal.returns-in_err-away
+returns-in_err-away c =
+    let none = going_none _ _ _ _ c.loop-job.invariant c.loop-job-test.true _ refl (sym c.in_err-away.was ∙ c.decided.ensures) in
+    search (rules, none)
 
-pub loop-i-init : goal.loop-i-init
-loop-i-init c = (search rules, going_begin _ _ _ refl)
-
-pub decided-decision-requires : goal.decided-decision-requires
-decided-decision-requires c = omega (arith, going_room _ _ _ _ c.loop-i.invariant.1)
-
-pub returns-in_default : goal.returns-in_default
-returns-in_default c =
-    let some = counted (goal.at.returns-in_default c).Start in
-    (λ k. record { found = false; draft = c.empty-nothing.ensures k }) ∙
-    going_none _ _ _ _ c.loop-i.invariant.1 (omega arith) _
-    (get_or-take _ _ _ _ c.loop-i-test.true)
-    (sym c.in_default.is ∙ c.decided-decision.ensures)
-
-pub with-laid-requires : goal.with-laid-requires
-with-laid-requires c = omega (arith, going_room _ _ _ _ c.loop-i.invariant.1)
-
-pub loop-i-preserved : goal.loop-i-preserved
-loop-i-preserved c =
-    let some = counted (goal.at.loop-i-preserved c).Start in (
-      search rules,
-      rw c.with-laid.ensures
-          (going_more _ _ _ _ c.loop-i.invariant.1 (omega arith) _
-          (get_or-take _ _ _ _ c.loop-i-test.true) _
-          (sym c.in-Run.is ∙ c.decided-decision.ensures) (omega arith)),
-    )
-
-pub returns : goal.returns
-returns c =
-    let some = counted (goal.at.returns c).Start in
-    going_end _ _ _ _ (omega (arith, c.loop-i-test.false)) c.loop-i.invariant.1
+pub loop-job-preserved : goal.loop-job-preserved
+loop-job-preserved c =
+    rw c.push.ensures
+    (going_more _ _ _ _ c.loop-job.invariant c.loop-job-test.true _ refl _ (sym c.in_ok-away.was ∙ c.decided.ensures) (omega (arith, length-take c.args.t.now.count c.args.t.now.jobs, c.requires)))

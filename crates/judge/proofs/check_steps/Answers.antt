@@ -37,10 +37,10 @@ found :
     (c : After-job-1) →
     let id = (step_at c.args.plan.now c.loop-k.k).id in
     let i = get_or c.index_of-index.result id 0 in
-    job_of (job_table c.args.t).jobs id ≡ Some (get_or c.args.t.jobs i no_job)
+    job_of (job_table c.args.t.now).jobs id ≡ Some (get_or c.args.t.now.jobs i no_job)
 found c =
-    let full : length c.args.t.jobs ≡ 32 = search rules in
-    let e = has c.args.t _ c.index_of-index.ensures (counted c.args.t full c.requires.0.few) c.requires.0.few _ (search rules) c.if-t-i.false in
+    let full : length c.args.t.now.jobs ≡ 32 = search rules in
+    let e = has c.args.t.now _ c.index_of-index.ensures (counted c.args.t.now full c.requires.0.few) c.requires.0.few _ (search rules) c.if-t-i.false in
     rw c.step_at-step.ensures at e
 
 pub loop-k-init : goal.loop-k-init
@@ -48,7 +48,7 @@ loop-k-init c = walk_begin _ _ _ c.requires.1
 
 pub returns-then-t-i : goal.returns-then-t-i
 returns-then-t-i c =
-    let e = lacks c.args.t _ c.index_of-index.ensures (counted c.args.t (search rules) c.requires.0.few) c.requires.0.few _ (search rules) c.if-t-i.true in
+    let e = lacks c.args.t.now _ c.index_of-index.ensures (counted c.args.t.now (search rules) c.requires.0.few) c.requires.0.few _ (search rules) c.if-t-i.true in
     walk_stranger _ _ _ c.loop-k.invariant c.loop-k-test.true (rw c.step_at-step.ensures at e)
 
 pub offset_bounds-t-i : goal.offset_bounds-t-i
@@ -73,12 +73,12 @@ loop-k-preserved c =
 
 pub returns-then-steps-t : goal.returns-then-steps-t
 returns-then-steps-t c =
-    walk_left _ _ _ c.loop-k.invariant (omega arith) c.requires.0.good (omega (arith, counted c.args.t (search rules) c.requires.0.few))
+    walk_left _ _ _ c.loop-k.invariant (omega arith) c.requires.0.good (omega (arith, counted c.args.t.now (search rules) c.requires.0.few))
 
-pub returns-then-last-t : goal.returns-then-last-t
-returns-then-last-t c =
-    walk_passes _ _ _ c.loop-k.invariant (omega arith) c.requires.0.good (omega (arith, counted c.args.t (search rules) c.requires.0.few)) (omega arith)
+pub returns-then-from-last : goal.returns-then-from-last
+returns-then-from-last c =
+    walk_late _ _ _ c.loop-k.invariant (omega arith) c.requires.0.good (omega (arith, counted c.args.t.now (search rules) c.requires.0.few)) (omega arith)
 
-pub returns-else-last-t : goal.returns-else-last-t
-returns-else-last-t c =
-    walk_late _ _ _ c.loop-k.invariant (omega arith) c.requires.0.good (omega (arith, counted c.args.t (search rules) c.requires.0.few)) (omega arith)
+pub returns : goal.returns
+returns c =
+    walk_passes _ _ _ c.loop-k.invariant (omega arith) c.requires.0.good (omega (arith, counted c.args.t.now (search rules) c.requires.0.few)) (omega arith)

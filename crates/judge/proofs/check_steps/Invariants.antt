@@ -1,12 +1,8 @@
 -- `judge::check_steps` meets its contract. The invariant is `Walked` of proofs/Walk.antt: the steps passed so far are listed and laid.
--- Each way out of a turn is one of its laws; the measure is how many steps are left. Assumes nothing.
-use Prim.Native.Nat.{◌-◌}
+-- Each way out of a turn is one of its laws. Assumes nothing.
 use Rattle.table.specs.Tables.{job_table}
 use Rattle.judge.proofs.Walk.{Walked}
 use Rattle.judge.proofs.check_steps.Given as goal
 
 abbrev pub invariant-loop-k : goal.invariant-loop-k
 invariant-loop-k l = Walked (job_table l.t) l.plan l.steps l.laid l.k
-
-abbrev pub decreases-loop-k : goal.decreases-loop-k
-decreases-loop-k l = l.steps - l.k

@@ -1,5 +1,5 @@
--- `octets::four_at` meets its contract: the low half, and the high half times 65,536. Assumes nothing.
-use borrow.Author.Rules.{rules}
+-- `octets::four_at` meets its contract. Assumes nothing.
+use Rattle.std.proofs.Common.{rules}
 use Rattle.octets.specs.Numbers.{four_at}
 use Rattle.octets.proofs.four_at.Goals as goal
 

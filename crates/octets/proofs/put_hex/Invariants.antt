@@ -1,5 +1,5 @@
 -- `octets::put_hex` meets its contract. The invariant: the digits still to write, written in front of those that stand, give all eight written.
--- The measure is how many are left. Assumes nothing.
+-- Assumes nothing.
 use Prim.Native.Nat.{ℕ, ◌≤◌}
 use mathlib.Core.Path.{◌≡◌}
 use mathlib.Core.List.{List}
@@ -14,8 +14,5 @@ pub record SoFar (out₀ : List ℕ) (at n : ℕ) (out : List ℕ) (left count :
   pub size : length out ≡ length out₀
   pub rest : written out at (hex_in count left) ≡ written out₀ at (hex_in 8 n)
 
-abbrev pub invariant-loop-count : goal.invariant-loop-count
-invariant-loop-count l = SoFar l.initial.out l.at l.n l.out l.left l.count
-
-abbrev pub decreases-loop-count : goal.decreases-loop-count
-decreases-loop-count l = l.count
+abbrev pub invariant-loop-i : goal.invariant-loop-i
+invariant-loop-i l = SoFar l.initial.out l.at l.n l.out l.left l.i

@@ -5,11 +5,11 @@ use mathlib.Core.Path.{◌≡◌, sym, ap, ◌∙◌}
 use mathlib.Core.List.{[], ◌∷◌, ◌++◌}
 use Rattle.records.specs.Limits.{most_jobs}
 use Rattle.records.specs.Refusals.{start}
-use Rattle.records.specs.Records.{one}
+use Rattle.std.proofs.Common.{rules}
+use Rattle.std.specs.Prelude.{Ok}
+use Rattle.records.specs.Records.{one, parsed}
 use Rattle.records.proofs.Listed.{so_far_begin, so_far_refused, so_far_ended, so_far_twice, so_far_more}
-use Rattle.plan.specs.declared.RecordRead.TheVariants.{RecordIs}
-use Rattle.plan.specs.declared.PlanRead.TheVariants.{PlanRefused}
-use Rattle.plan.specs.Plans.{step_parsed, refusal_of, read_plan, plan_read}
+use Rattle.plan.specs.Plans.{read_plan, plan_read}
 use Rattle.plan.proofs.Steps.{plan_entry, step_read, ended_count}
 use Rattle.plan.proofs.read_plan.Goals.{After-struct_known-1}
 use Rattle.plan.proofs.read_plan.Goals as goal
@@ -18,10 +18,7 @@ use Rattle.plan.proofs.read_plan.Goals as goal
 listed :
     (c : After-struct_known-1) →
     plan_entry c.args.s.now c.loop-record.p c.loop-record.count ≡ one c.in-Listed.step c.in-Listed.next
-listed c =
-    ap step_parsed
-    (sym c.record_at-answer.ensures ∙
-    (c.in-RecordIs.is ∙ ap RecordIs c.in-Listed.is))
+listed c = ap parsed (sym c.record_at-answer.ensures ∙ (c.in-Ok.is ∙ ap Ok c.in-Listed.is))
 
 -- where a step was read there is room for it
 room : (c : After-struct_known-1) → c.loop-record.count < most_jobs
@@ -33,9 +30,7 @@ loop-record-init c = record { xs = []; so = rw c.start-p.ensures (so_far_begin _
 pub returns-in_default : goal.returns-in_default
 unfolding read_plan
 returns-in_default c =
-    ap PlanRefused (c.refusal_of.ensures ∙ ap refusal_of c.in_default.is) ∙
-    ap plan_read
-    (so_far_refused _ _ _ c.loop-record.invariant.so (ap step_parsed (sym c.record_at-answer.ensures ∙ c.in_default.is)))
+    search (rules, ap plan_read (so_far_refused _ _ _ c.loop-record.invariant.so (ap parsed (sym c.record_at-answer.ensures ∙ c.in_default.is))))
 
 pub returns-then-seen-id : goal.returns-then-seen-id
 unfolding read_plan
@@ -60,10 +55,6 @@ loop-record-preserved c =
 pub returns-in-Last : goal.returns-in-Last
 unfolding read_plan
 returns-in-Last c =
-    let read =
-    ap step_parsed
-    (sym c.record_at-answer.ensures ∙
-    (c.in-RecordIs.is ∙ ap RecordIs c.in-Last.is)) in
-    c.ended_at.ensures ∙
-    rw c.loop-record.invariant.so.counted (ended_count c.args.s.now c.loop-record.invariant.xs c.in-Last.next
-    ∙ ap plan_read (so_far_ended _ _ _ c.loop-record.invariant.so read))
+    let read = ap parsed (sym c.record_at-answer.ensures ∙ (c.in-Ok.is ∙ ap Ok c.in-Last.is)) in
+    let ended = ended_count c.args.s.now c.loop-record.invariant.xs c.in-Last.next ∙ ap plan_read (so_far_ended _ _ _ c.loop-record.invariant.so read) in
+    search (rules, ended, c.loop-record.invariant.so.counted)

@@ -1,22 +1,20 @@
 -- `planner::least_deadline_read` meets its contract: the table's refusal, the least deadline, or NONE. Assumes nothing.
-use Rattle.planner.proofs.Deadlines.{least_refused, least_ready, least_met, least_never}
+use mathlib.Core.Path.{◌≡◌}
+use Rattle.std.proofs.Common.{rules}
+use Rattle.std.specs.Prelude.{Err, ok_or}
+use Rattle.records.specs.declared.refusal.Refusal.TheVariants as R
+use Rattle.planner.proofs.Deadlines.{least_refused, least_ready, least_answered}
 use Rattle.planner.proofs.least_deadline_read.Goals as goal
 
-pub prepare-requires : goal.prepare-requires
-prepare-requires c = c.requires c.in-Whole.is
+pub returns-in_err-table : goal.returns-in_err-table
+returns-in_err-table c =
+    let out : c.from_residual.result ≡ Err c.in_err-table.field-0.0 = search rules in
+    rw out (least_refused c.args.read _ c.in_err-table.was)
 
 pub earliest-requires : goal.earliest-requires
-earliest-requires c = least_ready c.args.read c.in-Whole.is _ c.prepare.ensures c.requires
+earliest-requires c = least_ready c.args.read _ c.in_ok-table.was _ c.prepare.ensures c.requires
 
-pub returns-in-Refused : goal.returns-in-Refused
-returns-in-Refused c = least_refused c.args.read _ c.in-Refused.is
-
-pub returns-in-Some : goal.returns-in-Some
-returns-in-Some c =
-    least_met c.args.read c.in-Whole.is _
-    c.prepare.ensures _ c.earliest.ensures _ c.in-Some.is
-
-pub returns-in-None : goal.returns-in-None
-returns-in-None c =
-    least_never c.args.read c.in-Whole.is _
-    c.prepare.ensures _ c.earliest.ensures c.in-None.is
+pub returns : goal.returns
+returns c =
+    let said : c.ok_or.result ≡ ok_or c.earliest.result R.None = search rules in
+    rw said (least_answered c.args.read _ c.in_ok-table.was _ c.prepare.ensures _ c.earliest.ensures)

@@ -2,8 +2,8 @@
 use Rattle.planner.proofs.Finishing.{was_read_lem, sound_read}
 use Rattle.planner.proofs.plan_free.Goals as goal
 
-pub plan_free_read-requires : goal.plan_free_read-requires
-plan_free_read-requires c = sound_read _ _ c.read_table.ensures
+pub plan_read-requires : goal.plan_read-requires
+plan_read-requires c = sound_read _ _ c.read_table.ensures
 
 pub returns : goal.returns
-returns c = rw (was_read_lem _ _ c.read_table.ensures) at c.plan_free_read.ensures
+returns c = rw (was_read_lem _ _ c.read_table.ensures) at c.plan_read.ensures

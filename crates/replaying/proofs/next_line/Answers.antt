@@ -19,21 +19,21 @@ returns-in_default c =
 
 pub slice_bounds-show-end : goal.slice_bounds-show-end
 slice_bounds-show-end c =
-    let whole = whole_is _ _ _ (sym c.record_at.ensures ∙ c.in-Whole.is) in
+    let whole = whole_is _ _ (sym c.record_at.ensures ∙ c.in-Some.is) in
     sym (length-take-le _ _ whole.within)
 
 pub show-requires : goal.show-requires
 show-requires c =
-    let whole = whole_is _ _ _ (sym c.record_at.ensures ∙ c.in-Whole.is) in
-    (whole_taken _ _ _ whole, c.requires)
+    let whole = whole_is _ _ (sym c.record_at.ensures ∙ c.in-Some.is) in
+    (whole_taken _ _ whole, c.requires)
 
 pub returns : goal.returns
 returns c =
-    let e = sym c.record_at.ensures ∙ c.in-Whole.is in
+    let e = sym c.record_at.ensures ∙ c.in-Some.is in
     rw e
     record {
       frame = c.show.ensures.frame;
-      gone = c.show.ensures.gone ∙ length-take-le _ _ (whole_is _ _ _ e).within;
+      gone = c.show.ensures.gone ∙ length-take-le _ _ (whole_is _ _ e).within;
       line = c.show.ensures.line;
       short = c.show.ensures.short;
     }

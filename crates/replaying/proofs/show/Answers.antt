@@ -1,6 +1,7 @@
 -- `replaying::show` meets its contract: the call's word, and its answer's text behind it. Assumes nothing.
 use native.Mathlib.Omega.{arith}
 use mathlib.Core.Path.{refl, ap}
+use lib.ListN.{length}
 use Rattle.octets.proofs.Writing.{then, ends_within}
 use Rattle.frame_record.specs.declared.Called.{Called}
 use Rattle.replaying.specs.Lines.{call_word, call_line}
@@ -9,15 +10,15 @@ use borrow.Author.Rules.{rules}
 use Rattle.replaying.proofs.show.Goals as goal
 
 pub put_answer-size-requires : goal.put_answer-size-requires
-put_answer-size-requires c = omega (arith, c.put_word-at.ensures.place, word_short c.args.kind)
+put_answer-size-requires c = omega (arith, c.put-at.ensures.place, word_short c.args.kind, ap length c.word_of.ensures)
 
 pub returns : goal.returns
 unfolding call_line
 returns c =
-    let answer = rw c.called-step.ensures at c.put_answer-size.ensures in
-    let line = then c.args.out.now 0 (call_word c.args.kind) _ (omega arith) c.put_word-at.ensures answer in
+    let answer = rw c.called-called.ensures at c.put_answer-size.ensures in
+    let line = then c.args.out.now 0 (call_word c.args.kind) _ (omega arith) (rw c.word_of.ensures at c.put-at.ensures) answer in
     record {
-      frame = ap (λ (x : Called). x.frame) c.called-step.ensures;
+      frame = ap (λ (x : Called). x.frame) c.called-called.ensures;
       gone = refl;
       line = line;
       short = omega (arith, ends_within c.args.out.now 0 _ _ _ (omega arith) line (search rules), c.requires.1);

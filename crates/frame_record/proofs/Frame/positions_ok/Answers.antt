@@ -2,38 +2,36 @@
 use mathlib.Core.Path.{sym, ◌∙◌}
 use native.Mathlib.Omega.{arith}
 use borrow.Author.Rules.{rules}
-use borrow.Author.Tests.{not-true, not-false}
 use Rattle.frame_record.proofs.Marks.{going, gone, beyond, position_again, id_again, badly, onward}
+use Rattle.frame_record.proofs.Frame.positions_ok.Goals.{then-self-position-via-then-self-position, then-self-position-via-else-self-position+then-positions-position}
+use Rattle.frame_record.proofs.Frame.positions_ok.Goals.{then-ids-id-via-then-ids-id, then-ids-id-via-else-ids-id+then-not-entry_ok}
 use Rattle.frame_record.proofs.Frame.positions_ok.Goals as goal
 
 pub loop-k-init : goal.loop-k-init
 loop-k-init c = going _
 
-pub returns-then-count-position : goal.returns-then-count-position
-returns-then-count-position c = beyond c.requires c.loop-k.invariant c.loop-k-test.true c.if-count-position.true
-
-pub bounds-positions-position : goal.bounds-positions-position
-bounds-positions-position c = omega (arith, c.requires, c.if-count-position.false)
-
-pub returns-then-positions-position : goal.returns-then-positions-position
-returns-then-positions-position c = position_again c.requires c.loop-k.invariant c.loop-k-test.true (omega arith) c.if-positions-position.true
-
-pub bounds-positions-position-in-loop-k : goal.bounds-positions-position-in-loop-k
-bounds-positions-position-in-loop-k c = omega (arith, c.requires, c.if-count-position.false)
+pub returns-then-self-position : goal.returns-then-self-position
+returns-then-self-position c =
+    elim c.then-self-position.branch [
+      | then-self-position-via-then-self-position w ↦ beyond c.requires c.loop-k.invariant c.loop-k-test.true w.if-self-position.true
+      | then-self-position-via-else-self-position+then-positions-position w ↦
+          position_again c.requires c.loop-k.invariant c.loop-k-test.true (omega arith) w.if-positions-position.true
+    ]
 
 pub returns-then-ids-id : goal.returns-then-ids-id
 returns-then-ids-id c =
-    id_again c.requires c.loop-k.invariant c.loop-k-test.true (omega arith) c.if-positions-position.false (search rules) c.if-ids-id.true
-
-pub returns-then-not-entry_ok : goal.returns-then-not-entry_ok
-returns-then-not-entry_ok c =
-    badly c.requires c.loop-k.invariant c.loop-k-test.true
-    (omega arith) c.if-positions-position.false (search rules) c.if-ids-id.false (sym c.entry_ok.ensures ∙ not-true _ c.if-not-entry_ok.true-raw)
+    elim c.then-ids-id.branch [
+      | then-ids-id-via-then-ids-id w ↦
+          id_again c.requires c.loop-k.invariant c.loop-k-test.true (omega arith) c.if-positions-position.false (search rules) w.if-ids-id.true
+      | then-ids-id-via-else-ids-id+then-not-entry_ok w ↦
+          badly c.requires c.loop-k.invariant c.loop-k-test.true (omega arith) c.if-positions-position.false (search rules) w.if-ids-id.false
+          (sym w.entry_ok.ensures ∙ w.if-not-entry_ok.true)
+    ]
 
 pub loop-k-preserved : goal.loop-k-preserved
 loop-k-preserved c =
     onward c.requires c.loop-k.invariant c.loop-k-test.true
-    (omega arith) c.if-positions-position.false (search rules) c.if-ids-id.false (sym c.entry_ok.ensures ∙ not-false _ c.if-not-entry_ok.false-raw)
+    (omega arith) c.if-positions-position.false (search rules) c.if-ids-id.false (sym c.entry_ok.ensures ∙ c.if-not-entry_ok.false)
 
 pub returns : goal.returns
 returns c = gone c.loop-k.invariant (omega arith)

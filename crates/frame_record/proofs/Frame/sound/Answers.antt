@@ -1,15 +1,13 @@
--- `frame_record::Frame::sound` meets its contract, phase by phase. Assumes nothing.
+-- `frame_record::Frame::sound` meets its contract, by the phase. Assumes nothing.
+use Rattle.std.proofs.lemmas.Grind.{common_steps}
+use native.Mathlib.Omega.{arith}
 use Rattle.frame_record.specs.Sound.{sound?}
 use Rattle.frame_record.proofs.Frame.sound.Goals as goal
 
-pub returns-in-Idle : goal.returns-in-Idle
+pub returns-then-eq : goal.returns-then-eq
 unfolding sound?
-returns-in-Idle c = simp c.in-Idle.is
+returns-then-eq c = grind (arith, common_steps)
 
-pub returns-in-Open : goal.returns-in-Open
+pub returns-else-eq : goal.returns-else-eq
 unfolding sound?
-returns-in-Open c = simp c.in-Open.is c.ok_begun.ensures
-
-pub returns-in-Closed : goal.returns-in-Closed
-unfolding sound?
-returns-in-Closed c = simp c.in-Closed.is c.ok_begun-in-Closed.ensures
+returns-else-eq c = grind (arith, common_steps)
