@@ -15,6 +15,7 @@ use model::Job;
 const COLUMNS: usize = 4001;
 
 // A total of so much or more stands for nothing: no choice of the jobs so far has this setup total.
+// It is a number and no Option, so that keeping a job here is a plain addition in every column.
 const NOTHING: u32 = 4_000_000;
 
 // A choice's total, and its mask: bit j says that the j-th job in away order is away. The lower total is the less, at equal totals the smaller mask.
@@ -65,25 +66,19 @@ fn raise(totals: &mut [u32; COLUMNS], from: usize, to: usize, by: u32)
     }
 }
 
-// Each column setup..end keeps the job here, or takes the column a setup time earlier with the job's bit, where that total is lower.
-// It goes from the highest down, so that the earlier column is still the one before this job.
-fn send(
-    totals: &mut [u32; COLUMNS],
-    masks: &mut [u32; COLUMNS],
-    setup: usize,
-    end: usize,
-    local: u32,
-    bit: u32,
-)
-    requires { (length totals.old ≡ columns) × (length masks.old ≡ columns) × (setup ≤ end) × (end ≤ columns)
-        × Fit end local totals.old × Fit end bit masks.old }
-    ensures { Sent setup end setup local bit totals.old masks.old totals.new masks.new }
+// Each column of the room keeps the job here, or takes the column a setup time earlier with the job's bit, where that total is lower.
+// It goes from the highest down, so that the earlier column is still the one before this job. Totals and masks are two parameters: as fields of one
+// struct the compiler does not know them apart, and the pass takes more than twice as long.
+fn send(totals: &mut [u32; COLUMNS], masks: &mut [u32; COLUMNS], room: Room, local: u32, bit: u32)
+    requires { (length totals.old ≡ columns) × (length masks.old ≡ columns) × (room.setup ≤ room.end) × (room.end ≤ columns)
+        × Fit room.end local totals.old × Fit room.end bit masks.old }
+    ensures { Sent room.setup room.end room.setup local bit totals.old masks.old totals.new masks.new }
 {
-    for t in (setup..end).rev() {
+    for t in (room.setup..room.end).rev() {
         let kept = totals[t] + local;
-        let sent = totals[t - setup];
+        let sent = totals[t - room.setup];
         totals[t] = lower_of(kept, sent, kept, sent);
-        masks[t] = lower_of(kept, sent, masks[t], masks[t - setup] + bit);
+        masks[t] = lower_of(kept, sent, masks[t], masks[t - room.setup] + bit);
     }
 }
 
@@ -96,7 +91,7 @@ fn add_job(totals: &mut [u32; COLUMNS], masks: &mut [u32; COLUMNS], d: usize, jo
     let local = job.local as u32;
     let room = room_for(d, job);
     raise(totals, room.end, d + 1, local);
-    send(totals, masks, room.setup, room.end, local, bit);
+    send(totals, masks, room, local, bit);
     raise(totals, 0, room.setup, local);
 }
 

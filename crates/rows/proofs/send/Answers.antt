@@ -25,8 +25,8 @@ overflow_add-masks c =
       fits =
           omega (
             arith,
-            c.loop-t.invariant.2.masks.outside (c.loop-t.t - 1 - c.args.setup) (inl (omega arith)),
-            c.requires.5 (c.loop-t.t - 1 - c.args.setup) (omega arith),
+            c.loop-t.invariant.2.masks.outside (c.loop-t.t - 1 - c.args.room.setup) (inl (omega arith)),
+            c.requires.5 (c.loop-t.t - 1 - c.args.room.setup) (omega arith),
           );
     }
 
@@ -40,4 +40,4 @@ loop-t-preserved c = (
 )
 
 pub returns : goal.returns
-returns c = let e : c.loop-t.t ≡ c.args.setup = omega arith in rw e at c.loop-t.invariant.2
+returns c = let e : c.loop-t.t ≡ c.args.room.setup = omega arith in rw e at c.loop-t.invariant.2
