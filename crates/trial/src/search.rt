@@ -1,113 +1,77 @@
-// The search: for each choice the least last finish over all orders of the jobs, laid back to back from tick 0; or its last finish in one order.
-// Nothing here is sorted but a plan's own order, and no result is built from that of another choice.
-ghost use Rattle.std.specs.Prelude.{◌≡◌, ◌≤◌, min, max};
+// The choices that a rule tries, each with its plan and when it is done; and the best of them. No result is built from that of another choice.
 
+use crate::choices::Choice;
 use crate::jobs::Jobs;
-use crate::{jobs, orders};
+use crate::rules::Rule;
+use crate::steps::Steps;
 
-// What a planner goes by: the two orders, and for the free order two errors that look right.
+// A choice with its steps in the order of its plan, its busy total, and when it is done.
 #[derive(Clone, Copy)]
-pub enum Rule {
-    FreeOrder,
-    GivenOrder,
-    ShortestReturnFirst,
-    TiesTheOtherWay,
+pub struct Tried {
+    pub choice: Choice,
+    pub listed: Steps,
+    pub busy: u32,
+    pub finish: u32,
 }
 
-// No layout ends so late.
-pub const NEVER: u32 = 0xFFFF_FFFF;
-
-// The later of two times.
-pub fn later(a: u32, b: u32) -> u32
-    ensures { result ≡ max a b }
-{
-    if a < b { b } else { a }
+// The best choice, and whether another one has the same busy total.
+#[derive(Clone, Copy)]
+pub struct Best {
+    pub tried: Tried,
+    pub tied: bool,
 }
 
-// The earlier of two times.
-fn earlier(a: u32, b: u32) -> u32
-    ensures { result ≡ min a b }
-{
-    if a < b { a } else { b }
+// Nothing, for a choice that the rule does not try.
+pub type AllTried = [Option<Tried>; Choice::COUNT];
+
+fn try_choice(jobs: &Jobs, choice: Choice, rule: &impl Rule) -> Option<Tried> {
+    let listed = Steps::of(jobs, choice, rule)?.listed(rule);
+    Some(Tried {
+        choice,
+        listed,
+        busy: listed.busy(),
+        finish: rule.finish(&listed),
+    })
 }
 
-// The last finish of the jobs laid back to back in an order, 0 for no jobs.
-pub fn last_finish(jobs: Jobs, choice: usize, order: usize) -> u32
-    requires { jobs.count ≤ 6 }
-{
-    let mut last = 0;
-    let mut end = 0;
-    let mut rest = order;
-    let mut k = 0;
-    while k < jobs.count {
-        let job = jobs::job_at(jobs, rest);
-        let away = jobs::has(choice, rest);
-        end += jobs::span(job, away);
-        last = later(last, end + jobs::wait(job, away));
-        rest = rest / 8;
-        k += 1;
+// All choices of the jobs.
+pub fn try_all(jobs: &Jobs, rule: &impl Rule) -> AllTried {
+    let mut all = [None; Choice::COUNT];
+    let choices = 0..1u8 << jobs.as_slice().len();
+    for (tried, number) in all.iter_mut().zip(choices) {
+        *tried = try_choice(jobs, Choice::numbered(number), rule);
     }
-    last
+    all
 }
 
-// The least last finish of a choice over all orders.
-fn least_finish(jobs: Jobs, choice: usize) -> u32
-    requires { jobs.count ≤ 6 }
-{
-    let all = orders::orders(jobs.count);
-    let mut least = NEVER;
-    let mut k = 0;
-    while k < all {
-        let order = orders::order_of(k, jobs.count);
-        least = earlier(least, last_finish(jobs, choice, order));
-        k += 1;
+// When the first of the choices is done.
+pub fn least_finish(all: &AllTried) -> Option<u32> {
+    all.iter().flatten().map(|tried| tried.finish).min()
+}
+
+// The better of the best so far and one more choice.
+fn better(jobs: &Jobs, rule: &impl Rule, best: Best, next: Best) -> Best {
+    if next.tried.busy < best.tried.busy {
+        return next;
     }
-    least
-}
-
-// The order in which the plan of a choice lists the jobs; with no job sent away that is the table's.
-pub fn listing(jobs: Jobs, choice: usize, rule: Rule) -> usize {
-    match rule {
-        Rule::GivenOrder => orders::plan_order(jobs, 0, true),
-        Rule::ShortestReturnFirst => orders::plan_order(jobs, choice, false),
-        _ => orders::plan_order(jobs, choice, true),
+    if best.tried.busy < next.tried.busy {
+        return best;
+    }
+    let wins = rule.wins(jobs, next.tried.choice, best.tried.choice);
+    Best {
+        tried: if wins { next.tried } else { best.tried },
+        tied: true,
     }
 }
 
-// When a choice is done; never, if it sends a job away that may not leave.
-fn finish_of(jobs: Jobs, choice: usize, rule: Rule) -> u32
-    requires { jobs.count ≤ 6 }
-{
-    if !jobs::within(choice, jobs.either) {
-        return NEVER;
-    }
-    match rule {
-        Rule::GivenOrder => last_finish(jobs, choice, listing(jobs, choice, rule)),
-        Rule::ShortestReturnFirst => last_finish(jobs, choice, listing(jobs, choice, rule)),
-        _ => least_finish(jobs, choice),
-    }
-}
-
-// When each choice is done: entry c is that of the choice c.
-pub fn finishes(jobs: Jobs, rule: Rule) -> [u32; 64]
-    requires { jobs.count ≤ 6 }
-{
-    let mut found = [NEVER; 64];
-    let mut choice = 0;
-    while choice < 64 {
-        found[choice] = finish_of(jobs, choice, rule);
-        choice += 1;
-    }
-    found
-}
-
-// The least of all choices' finishes.
-pub fn least_of(finishes: [u32; 64]) -> u32 {
-    let mut least = NEVER;
-    let mut choice = 0;
-    while choice < 64 {
-        least = earlier(least, finishes[choice]);
-        choice += 1;
-    }
-    least
+// The best choice under a rule, of those that are done by the deadline.
+pub fn best_choice(jobs: &Jobs, all: &AllTried, deadline: u16, rule: &impl Rule) -> Option<Best> {
+    all.iter()
+        .flatten()
+        .filter(|tried| tried.finish <= u32::from(deadline))
+        .map(|tried| Best {
+            tried: *tried,
+            tied: false,
+        })
+        .reduce(|best, next| better(jobs, rule, best, next))
 }
