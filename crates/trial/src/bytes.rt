@@ -1,6 +1,6 @@
 // Bytes at the front of an area: a table, or a plan in the area that a planner is lent.
 // The area is longer than the longest plan, so that a byte written behind a plan shows.
-ghost use Rattle.std.specs.Prelude.{◌≡◌, ◌+◌, ◌≤◌, length, take};
+ghost use Rattle.std.specs.Prelude.{◌≡◌, ◌+◌, ◌≤◌, ◌++◌, length, take};
 
 use crate::jobs::{Job, Jobs};
 use crate::steps::Steps;
@@ -31,7 +31,8 @@ impl Bytes {
     // Puts more bytes behind these.
     fn extend(&mut self, more: &[u8])
         requires { self.old.count + length more.now ≤ 72 }
-        ensures { self.new.count ≡ self.old.count + length more.now }
+        ensures bytes { take self.new.count self.new.area ≡ take self.old.count self.old.area ++ more.now }
+        ensures count { self.new.count ≡ self.old.count + length more.now }
     {
         let end = self.count + more.len();
         self.area[self.count..end].copy_from_slice(more);
@@ -39,7 +40,8 @@ impl Bytes {
     }
 
     pub fn as_slice(&self) -> &[u8]
-        ensures { result.now ≡ take self.now.count self.now.area }
+        ensures bytes { result.now ≡ take self.now.count self.now.area }
+        ensures len { length result.now ≡ self.now.count }
     {
         &self.area[..self.count]
     }

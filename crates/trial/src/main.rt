@@ -13,79 +13,55 @@ mod search; // search.rt: all choices, and the best of them
 mod steps; // steps.rt: the steps of a choice, and when they are done, by trying all orders
 mod tables; // tables.rt: the tables, from fixed numbers
 
-use answers::{Answer, Refused};
-use jobs::Jobs;
-use report::{Report, count};
-use rules::{FreeOrder, GivenOrder, Rule, ShortestReturnFirst, SoonerOnly, TiesTheOtherWay};
-use search::AllTried;
+use answers::Answer;
+use report::{CaughtCounts, Report, count};
+use rules::{FreeOrder, GivenOrder, ShortestReturnFirst, SoonerOnly, TiesTheOtherWay};
+use search::Search;
 use std::io;
-use table::Table;
 
 const TABLES: u64 = 4000;
 
-// The least deadline that some choice meets: at least 1, and none above the largest time.
-fn expected_least(least: Option<u32>) -> Result<u16, Refused> {
-    least
-        .and_then(|least| u16::try_from(least).ok())
-        .filter(|least| *least <= Table::LARGEST_TIME)
-        .map(|least| least.max(1))
-        .ok_or(Refused::None)
+// Asks the three planners, and holds their answers to the search.
+fn try_planners(free: &Search<FreeOrder>, table: &[u8], deadline: u16, report: &mut Report) {
+    let given = Search::new(free.jobs, GivenOrder);
+    let best = free.best(deadline);
+    let best_given = given.best(deadline);
+    report
+        .free
+        .add(&asked::plan(planner::plan_free, table), best);
+    report
+        .given
+        .add(&asked::plan(planner::plan_given, table), best_given);
+    count(
+        &mut report.only_free,
+        best.is_some() && best_given.is_none(),
+    );
+    let least = asked::least_deadline(table);
+    report.least.add(least, free.least_deadline(), deadline);
 }
 
-// Whether a planner that goes by this rule is told from a right one.
-fn catches(jobs: &Jobs, all: &AllTried, deadline: u16, rule: &impl Rule, right: &Answer) -> bool {
-    let best = search::best_choice(jobs, all, deadline, rule);
-    Answer::expected(best) != *right
+// Tells which errors that look right give another answer than the right one: sending away only where S + I < C, shortest return first, ties
+// settled the other way, NONE to all.
+fn try_errors(free: &Search<FreeOrder>, deadline: u16, caught: &mut CaughtCounts) {
+    let right = free.answer(deadline);
+    let sooner_only = Search::new(free.jobs, SoonerOnly).answer(deadline);
+    let shortest_first = Search::new(free.jobs, ShortestReturnFirst).answer(deadline);
+    let ties = free.under(TiesTheOtherWay).answer(deadline);
+    count(&mut caught.sooner_only, sooner_only != right);
+    count(&mut caught.shortest_first, shortest_first != right);
+    count(&mut caught.ties, ties != right);
+    count(&mut caught.none, Answer::NONE != right);
 }
 
 // Tries the table with this number.
 fn try_table(number: u64, report: &mut Report) {
     let jobs = &tables::jobs_of(number);
-    let all = &search::try_all(jobs, &FreeOrder);
-    let least = search::least_finish(all);
-    let deadline = tables::deadline_of(number, least);
-    let written = bytes::table_bytes(jobs, deadline);
-    let table = written.as_slice();
+    let free = &Search::new(jobs, FreeOrder);
+    let deadline = tables::deadline_of(number, free.least_finish());
+    let table = bytes::table_bytes(jobs, deadline);
     report.add_table(jobs.as_slice().len());
-
-    let best = search::best_choice(jobs, all, deadline, &FreeOrder);
-    let right = &Answer::expected(best);
-    let answer = asked::plan(planner::plan_free, table);
-    report.free.add(&answer, best, right);
-
-    let given = &search::try_all(jobs, &GivenOrder);
-    let best_given = search::best_choice(jobs, given, deadline, &GivenOrder);
-    let answer = asked::plan(planner::plan_given, table);
-    report
-        .given
-        .add(&answer, best_given, &Answer::expected(best_given));
-    count(
-        &mut report.only_free,
-        best.is_some() && best_given.is_none(),
-    );
-
-    report.least.add(
-        asked::least_deadline(table),
-        expected_least(least),
-        deadline,
-    );
-
-    let sooner = &search::try_all(jobs, &SoonerOnly);
-    let shortest = &search::try_all(jobs, &ShortestReturnFirst);
-    let caught = &mut report.caught;
-    count(
-        &mut caught.sooner_only,
-        catches(jobs, sooner, deadline, &SoonerOnly, right),
-    );
-    count(
-        &mut caught.shortest_first,
-        catches(jobs, shortest, deadline, &ShortestReturnFirst, right),
-    );
-    count(
-        &mut caught.ties,
-        catches(jobs, all, deadline, &TiesTheOtherWay, right),
-    );
-    count(&mut caught.none, *right != Answer::NONE);
+    try_planners(free, table.as_slice(), deadline, report);
+    try_errors(free, deadline, &mut report.caught);
 }
 
 // Tries all tables, and prints the report.

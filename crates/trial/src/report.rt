@@ -53,7 +53,7 @@ pub fn count(total: &mut u64, so: bool) {
 
 impl OrderCounts {
     // Counts an answer, beside the one that goes with the best choice.
-    pub fn add(&mut self, answer: &Answer, best: Option<Best>, expected: &Answer) {
+    pub fn add(&mut self, answer: &Answer, best: Option<Best>) {
         count(&mut self.plans, answer.plan.is_ok());
         count(&mut self.none, answer.plan == Err(Refused::None));
         count(&mut self.ties, best.is_some_and(|best| best.tied));
@@ -61,7 +61,7 @@ impl OrderCounts {
             &mut self.away,
             best.is_some_and(|best| !best.tried.choice.is_empty()),
         );
-        count(&mut self.differences, answer != expected);
+        count(&mut self.differences, *answer != Answer::expected(best));
     }
 
     fn write<W: fmt::Write>(&self, f: &mut fmt::Formatter<W>, order: &str) -> fmt::Result {
@@ -75,15 +75,20 @@ impl OrderCounts {
 
 impl LeastCounts {
     // Counts an answer, beside the least deadline that some choice meets and the table's own.
-    pub fn add(&mut self, answer: Result<u16, Refused>, edge: Result<u16, Refused>, deadline: u16) {
+    pub fn add(
+        &mut self,
+        answer: Result<u16, Refused>,
+        least: Result<u16, Refused>,
+        deadline: u16,
+    ) {
         count(&mut self.found, answer.is_ok());
         count(&mut self.none, answer == Err(Refused::None));
-        count(&mut self.differences, answer != edge);
+        count(&mut self.differences, answer != least);
         count(
             &mut self.one_below,
-            edge.is_ok_and(|least| u32::from(deadline) + 1 == u32::from(least)),
+            least.is_ok_and(|least| u32::from(deadline) + 1 == u32::from(least)),
         );
-        count(&mut self.at, edge == Ok(deadline));
+        count(&mut self.at, least == Ok(deadline));
     }
 }
 

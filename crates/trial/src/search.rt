@@ -1,9 +1,12 @@
-// The choices that a rule tries, each with its plan and when it is done; and the best of them. No result is built from that of another choice.
+// The search: all choices that a rule tries, each with its plan and when it is done; the best of them, and the least deadline.
+// No result is built from that of another choice.
 
+use crate::answers::{Answer, Refused};
 use crate::choices::Choice;
 use crate::jobs::Jobs;
 use crate::rules::Rule;
 use crate::steps::Steps;
+use table::Table;
 
 // A choice with its steps in the order of its plan, its busy total, and when it is done.
 #[derive(Clone, Copy)]
@@ -21,8 +24,13 @@ pub struct Best {
     pub tied: bool,
 }
 
-// Nothing, for a choice that the rule does not try.
-pub type AllTried = [Option<Tried>; Choice::COUNT];
+// The choices of a table's jobs; nothing stands for one that the rule does not try.
+#[derive(Clone, Copy)]
+pub struct Search<'a, R> {
+    pub jobs: &'a Jobs,
+    rule: R,
+    all: [Option<Tried>; Choice::COUNT],
+}
 
 fn try_choice(jobs: &Jobs, choice: Choice, rule: &impl Rule) -> Option<Tried> {
     let listed = Steps::of(jobs, choice, rule)?.listed(rule);
@@ -34,44 +42,70 @@ fn try_choice(jobs: &Jobs, choice: Choice, rule: &impl Rule) -> Option<Tried> {
     })
 }
 
-// All choices of the jobs.
-pub fn try_all(jobs: &Jobs, rule: &impl Rule) -> AllTried {
-    let mut all = [None; Choice::COUNT];
-    let choices = 0..1u8 << jobs.as_slice().len();
-    for (tried, number) in all.iter_mut().zip(choices) {
-        *tried = try_choice(jobs, Choice::numbered(number), rule);
+impl<'a, R: Rule + Copy> Search<'a, R> {
+    // Tries all choices.
+    pub fn new(jobs: &'a Jobs, rule: R) -> Self {
+        let mut all = [None; Choice::COUNT];
+        let choices = 0..1u8 << jobs.as_slice().len();
+        for (tried, number) in all.iter_mut().zip(choices) {
+            *tried = try_choice(jobs, Choice::numbered(number), &rule);
+        }
+        Search { jobs, rule, all }
     }
-    all
-}
 
-// When the first of the choices is done.
-pub fn least_finish(all: &AllTried) -> Option<u32> {
-    all.iter().flatten().map(|tried| tried.finish).min()
-}
+    // The same choices, of which the best goes by another rule.
+    pub fn under<S: Rule + Copy>(&self, rule: S) -> Search<'a, S> {
+        let jobs = self.jobs;
+        let all = self.all;
+        Search { jobs, rule, all }
+    }
 
-// The better of the best so far and one more choice.
-fn better(jobs: &Jobs, rule: &impl Rule, best: Best, next: Best) -> Best {
-    if next.tried.busy < best.tried.busy {
-        return next;
+    // When the first of the choices is done.
+    pub fn least_finish(&self) -> Option<u32> {
+        self.all.iter().flatten().map(|tried| tried.finish).min()
     }
-    if best.tried.busy < next.tried.busy {
-        return best;
-    }
-    let wins = rule.wins(jobs, next.tried.choice, best.tried.choice);
-    Best {
-        tried: if wins { next.tried } else { best.tried },
-        tied: true,
-    }
-}
 
-// The best choice under a rule, of those that are done by the deadline.
-pub fn best_choice(jobs: &Jobs, all: &AllTried, deadline: u16, rule: &impl Rule) -> Option<Best> {
-    all.iter()
-        .flatten()
-        .filter(|tried| tried.finish <= u32::from(deadline))
-        .map(|tried| Best {
-            tried: *tried,
-            tied: false,
-        })
-        .reduce(|best, next| better(jobs, rule, best, next))
+    // The least deadline that some choice meets: at least 1, and none above the largest time.
+    pub fn least_deadline(&self) -> Result<u16, Refused> {
+        self.least_finish()
+            .and_then(|least| u16::try_from(least).ok())
+            .filter(|least| *least <= Table::LARGEST_TIME)
+            .map(|least| least.max(1))
+            .ok_or(Refused::None)
+    }
+
+    // The better of the best so far and one more choice.
+    fn better(&self, best: Best, next: Best) -> Best {
+        if next.tried.busy < best.tried.busy {
+            return next;
+        }
+        if best.tried.busy < next.tried.busy {
+            return best;
+        }
+        let wins = self
+            .rule
+            .wins(self.jobs, next.tried.choice, best.tried.choice);
+        Best {
+            tried: if wins { next.tried } else { best.tried },
+            tied: true,
+        }
+    }
+
+    // The best of the choices that are done by the deadline.
+    pub fn best(&self, deadline: u16) -> Option<Best> {
+        self.all
+            .iter()
+            .flatten()
+            .filter(|tried| tried.finish <= u32::from(deadline))
+            .map(|tried| Best {
+                tried: *tried,
+                tied: false,
+            })
+            .reduce(|best, next| self.better(best, next))
+    }
+
+    // The answer that goes with the best choice.
+    pub fn answer(&self, deadline: u16) -> Answer {
+        Answer::expected(self.best(deadline))
+    }
 }

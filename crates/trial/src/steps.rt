@@ -1,6 +1,6 @@
 // The steps of a choice: each job of a table, kept here or sent away, in table order or in another one. What an order of them comes to,
 // and the search: the least last finish over all orders of the steps, laid back to back from tick 0.
-ghost use Rattle.std.specs.Prelude.{◌≡◌, ◌*◌, ◌≤◌, length, sum_by, take};
+ghost use Rattle.std.specs.Prelude.{◌≡◌, ◌≤◌, length, sum_by, take, IfSome, IsPermutation};
 
 use crate::choices::Choice;
 use crate::jobs::{Job, Jobs, MOST_JOBS};
@@ -45,9 +45,23 @@ fn step_of(job: &Job, place: usize, away: bool, rule: &impl Rule) -> Option<Step
     })
 }
 
+// Puts the items into the order with a number: each in turn changes places with one before it, or stays. Different numbers below that of the
+// orders give different orders, since the last item's place tells the last remainder, and so on down.
+fn arrange<T>(items: &mut [T], number: usize)
+    ensures { IsPermutation items.old items.new }
+{
+    let mut rest = number;
+    for k in 0..items.len() {
+        items.swap(k, rest % (k + 1));
+        rest /= k + 1;
+    }
+}
+
 impl Steps {
     // The steps of a choice in table order; nothing, if it sends a job away that the rule does not send.
-    pub fn of(jobs: &Jobs, choice: Choice, rule: &impl Rule) -> Option<Steps> {
+    pub fn of(jobs: &Jobs, choice: Choice, rule: &impl Rule) -> Option<Steps>
+        ensures { IfSome result (λ steps. steps.count ≡ jobs.now.count) }
+    {
         let jobs = jobs.as_slice();
         let mut list = [Step::default(); MOST_JOBS];
         for (place, (step, job)) in list.iter_mut().zip(jobs).enumerate() {
@@ -60,7 +74,9 @@ impl Steps {
     }
 
     // The same steps, in the order in which a rule's plan lists them.
-    pub fn listed(mut self, rule: &impl Rule) -> Steps {
+    pub fn listed(mut self, rule: &impl Rule) -> Steps
+        ensures { result.count ≡ self.count }
+    {
         let count = self.count;
         rule.list(&mut self.list[..count]);
         self
@@ -94,19 +110,15 @@ impl Steps {
         last
     }
 
-    // The order with a number: each step in turn changes places with one before it, or stays. Different numbers below that of the orders
-    // give different orders, since the last step's place tells the last remainder, and so on down.
-    fn in_order(&self, number: usize) -> Steps {
+    // The same steps in the order with a number.
+    fn in_order(&self, number: usize) -> Steps
+        ensures count { result.count ≡ self.now.count }
+        ensures steps { IsPermutation (take self.now.count self.now.list) (take self.now.count result.list) }
+    {
+        let count = self.count;
         let mut list = self.list;
-        let mut rest = number;
-        for k in 0..self.count {
-            list.swap(k, rest % (k + 1));
-            rest /= k + 1;
-        }
-        Steps {
-            list,
-            count: self.count,
-        }
+        arrange(&mut list[..count], number);
+        Steps { list, count }
     }
 
     // The least last finish over all orders of the steps.

@@ -51,7 +51,7 @@ impl Draws {
     fn at(self, place: u64, purpose: Purpose, most: u16) -> u16
         ensures { result ≤ most }
     {
-        let seed = stepped(self.table % 100000 * 100 + place % 10 * 10 + purpose as u64 % 10);
+        let seed = stepped(self.table % 100000 * 100 + place % 10 * 10 + purpose as u64);
         let number = stepped(seed ^ (seed >> 15));
         ((number >> 9) % (most as u64 + 1)) as u16
     }
