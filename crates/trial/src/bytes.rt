@@ -1,6 +1,7 @@
 // Bytes at the front of an area: a table, or a plan in the area that a planner is lent.
 // The area is longer than the longest plan, so that a byte written behind a plan shows.
 ghost use Rattle.std.specs.Prelude.{◌≡◌, ◌+◌, ◌≤◌, ◌++◌, length, take};
+ghost use Rattle.trial.specs.declared.bytes.TheConstants.{AREA};
 
 use crate::jobs::{Job, Jobs};
 use crate::steps::Steps;
@@ -14,7 +15,7 @@ pub const UNTOUCHED: [u8; AREA] = [0xA5; AREA];
 pub struct Bytes {
     pub area: [u8; AREA],
     pub count: usize,
-    ghost inside: { count ≤ 72 },
+    ghost inside: { count ≤ AREA },
 }
 
 impl Bytes {
@@ -30,7 +31,7 @@ impl Bytes {
 
     // Puts more bytes behind these.
     fn extend(&mut self, more: &[u8])
-        requires { self.old.count + length more.now ≤ 72 }
+        requires { self.old.count + length more.now ≤ AREA }
         ensures bytes { take self.new.count self.new.area ≡ take self.old.count self.old.area ++ more.now }
         ensures count { self.new.count ≡ self.old.count + length more.now }
     {
@@ -49,7 +50,7 @@ impl Bytes {
 
 // Puts a job's record behind the others.
 fn put_job(bytes: &mut Bytes, job: &Job)
-    requires { bytes.old.count + 8 ≤ 72 }
+    requires { bytes.old.count + 8 ≤ AREA }
     ensures { bytes.new.count ≤ bytes.old.count + 8 }
 {
     let kind = if job.away.is_some() { 0x12 } else { 0x11 };

@@ -1,5 +1,6 @@
 // The jobs of a table, up to six of them.
 ghost use Rattle.std.specs.Prelude.{◌≡◌, ◌≤◌, length, take};
+ghost use Rattle.trial.specs.declared.jobs.TheConstants.{MOST_JOBS};
 
 pub const MOST_JOBS: usize = 6;
 
@@ -22,13 +23,13 @@ pub struct Job {
 pub struct Jobs {
     list: [Job; MOST_JOBS],
     count: usize,
-    ghost few: { count ≤ 6 },
+    ghost few: { count ≤ MOST_JOBS },
 }
 
 impl Jobs {
     // The first `count` jobs of a list.
     pub fn first(list: [Job; MOST_JOBS], count: usize) -> Jobs
-        requires { count ≤ 6 }
+        requires { count ≤ MOST_JOBS }
         ensures { (result.list ≡ list) × (result.count ≡ count) }
     {
         Jobs { list, count }
@@ -37,7 +38,7 @@ impl Jobs {
     // The jobs, in table order.
     pub fn as_slice(&self) -> &[Job]
         ensures jobs { result.now ≡ take self.now.count self.now.list }
-        ensures few { length result.now ≤ 6 }
+        ensures few { length result.now ≤ MOST_JOBS }
     {
         &self.list[..self.count]
     }

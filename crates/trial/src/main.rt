@@ -23,19 +23,14 @@ const TABLES: u64 = 4000;
 
 // Asks the three planners, and holds their answers to the search.
 fn try_planners(free: &Search<FreeOrder>, table: &[u8], deadline: u16, report: &mut Report) {
-    let given = Search::new(free.jobs, GivenOrder);
     let best = free.best(deadline);
-    let best_given = given.best(deadline);
-    report
-        .free
-        .add(&asked::plan(planner::plan_free, table), best);
-    report
-        .given
-        .add(&asked::plan(planner::plan_given, table), best_given);
-    count(
-        &mut report.only_free,
-        best.is_some() && best_given.is_none(),
-    );
+    let answer = asked::plan(planner::plan_free, table);
+    report.free.add(&answer, best);
+    let given_best = Search::new(free.jobs, GivenOrder).best(deadline);
+    let given_answer = asked::plan(planner::plan_given, table);
+    report.given.add(&given_answer, given_best);
+    let only_free = best.is_some() && given_best.is_none();
+    count(&mut report.only_free, only_free);
     let least = asked::least_deadline(table);
     report.least.add(least, free.least_deadline(), deadline);
 }

@@ -1,11 +1,12 @@
 // The search: all choices that a rule tries, each with its plan and when it is done; the best of them, and the least deadline.
-// No result is built from that of another choice.
+// Nothing is sorted but a plan's own order, and no result is built from that of another choice.
 
 use crate::answers::{Answer, Refused};
 use crate::choices::Choice;
 use crate::jobs::Jobs;
 use crate::rules::Rule;
 use crate::steps::Steps;
+use std::cmp::Ordering;
 use table::Table;
 
 // A choice with its steps in the order of its plan, its busy total, and when it is done.
@@ -76,18 +77,18 @@ impl<'a, R: Rule + Copy> Search<'a, R> {
 
     // The better of the best so far and one more choice.
     fn better(&self, best: Best, next: Best) -> Best {
-        if next.tried.busy < best.tried.busy {
-            return next;
-        }
-        if best.tried.busy < next.tried.busy {
-            return best;
-        }
-        let wins = self
-            .rule
-            .wins(self.jobs, next.tried.choice, best.tried.choice);
-        Best {
-            tried: if wins { next.tried } else { best.tried },
-            tied: true,
+        match next.tried.busy.cmp(&best.tried.busy) {
+            Ordering::Less => next,
+            Ordering::Greater => best,
+            Ordering::Equal => {
+                let wins = self
+                    .rule
+                    .wins(self.jobs, next.tried.choice, best.tried.choice);
+                Best {
+                    tried: if wins { next.tried } else { best.tried },
+                    tied: true,
+                }
+            }
         }
     }
 

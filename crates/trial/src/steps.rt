@@ -1,6 +1,7 @@
 // The steps of a choice: each job of a table, kept here or sent away, in table order or in another one. What an order of them comes to,
 // and the search: the least last finish over all orders of the steps, laid back to back from tick 0.
 ghost use Rattle.std.specs.Prelude.{◌≡◌, ◌≤◌, length, sum_by, take, IfSome, IsPermutation};
+ghost use Rattle.trial.specs.declared.jobs.TheConstants.{MOST_JOBS};
 
 use crate::choices::Choice;
 use crate::jobs::{Job, Jobs, MOST_JOBS};
@@ -22,26 +23,22 @@ pub struct Step {
 pub struct Steps {
     list: [Step; MOST_JOBS],
     count: usize,
-    ghost few: { count ≤ 6 },
+    ghost few: { count ≤ MOST_JOBS },
 }
 
 // The step of the job at a place; nothing, if it is sent away and the rule does not send it.
 fn step_of(job: &Job, place: usize, away: bool, rule: &impl Rule) -> Option<Step> {
-    let id = job.id;
-    if !away {
-        return Some(Step {
-            place,
-            id,
-            span: job.local,
-            back: None,
-        });
-    }
-    let times = rule.sends(job)?;
+    let (span, back) = if away {
+        let times = rule.sends(job)?;
+        (times.setup, Some(times.back))
+    } else {
+        (job.local, None)
+    };
     Some(Step {
         place,
-        id,
-        span: times.setup,
-        back: Some(times.back),
+        id: job.id,
+        span,
+        back,
     })
 }
 
@@ -84,7 +81,7 @@ impl Steps {
 
     pub fn as_slice(&self) -> &[Step]
         ensures steps { result.now ≡ take self.now.count self.now.list }
-        ensures few { length result.now ≤ 6 }
+        ensures few { length result.now ≤ MOST_JOBS }
     {
         &self.list[..self.count]
     }
