@@ -8,6 +8,21 @@ use crate::steps::Steps;
 
 pub const AREA: usize = 72;
 
+// The kind bytes of tables and plans, in the trial's own words: it takes none from what it judges.
+const FRAME: u8 = 0x10;
+
+const HERE_JOB: u8 = 0x11;
+
+const EITHER_JOB: u8 = 0x12;
+
+const TABLE_END: u8 = 0x1F;
+
+const RUN_HERE: u8 = 0x20;
+
+const SEND_AWAY: u8 = 0x21;
+
+const PLAN_END: u8 = 0x2F;
+
 // The area before it is lent, with a byte in it that is no record's kind.
 pub const UNTOUCHED: [u8; AREA] = [0xA5; AREA];
 
@@ -53,7 +68,11 @@ fn put_job(bytes: &mut Bytes, job: &Job)
     requires { bytes.old.count + 8 ≤ AREA }
     ensures { bytes.new.count ≤ bytes.old.count + 8 }
 {
-    let kind = if job.away.is_some() { 0x12 } else { 0x11 };
+    let kind = if job.away.is_some() {
+        EITHER_JOB
+    } else {
+        HERE_JOB
+    };
     bytes.extend(&[kind, job.id]);
     bytes.extend(&job.local.to_le_bytes());
     if let Some(away) = job.away {
@@ -65,12 +84,12 @@ fn put_job(bytes: &mut Bytes, job: &Job)
 // A table of these jobs and this deadline.
 pub fn table_bytes(jobs: &Jobs, deadline: u16) -> Bytes {
     let mut bytes = Bytes::new();
-    bytes.extend(&[0x10]);
+    bytes.extend(&[FRAME]);
     bytes.extend(&deadline.to_le_bytes());
     for job in jobs.as_slice() {
         put_job(&mut bytes, job);
     }
-    bytes.extend(&[0x1F]);
+    bytes.extend(&[TABLE_END]);
     bytes
 }
 
@@ -78,9 +97,13 @@ pub fn table_bytes(jobs: &Jobs, deadline: u16) -> Bytes {
 pub fn plan_bytes(listed: &Steps) -> Bytes {
     let mut bytes = Bytes::new();
     for step in listed.as_slice() {
-        let kind = if step.back.is_some() { 0x21 } else { 0x20 };
+        let kind = if step.back.is_some() {
+            SEND_AWAY
+        } else {
+            RUN_HERE
+        };
         bytes.extend(&[kind, step.id]);
     }
-    bytes.extend(&[0x2F]);
+    bytes.extend(&[PLAN_END]);
     bytes
 }

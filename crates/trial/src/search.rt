@@ -25,7 +25,7 @@ pub struct Best {
     pub tied: bool,
 }
 
-// The choices of a table's jobs; nothing stands for one that the rule does not try.
+// The choices of a table's jobs by their numbers; `None` stands for one that the rule does not try.
 #[derive(Clone, Copy)]
 pub struct Search<'a, R> {
     pub jobs: &'a Jobs,

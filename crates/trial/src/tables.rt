@@ -53,7 +53,7 @@ impl Draws {
     {
         let seed = stepped(self.table % 100000 * 100 + place % 10 * 10 + purpose as u64);
         let number = stepped(seed ^ (seed >> 15));
-        ((number >> 9) % (most as u64 + 1)) as u16
+        ((number >> 9) % (u64::from(most) + 1)) as u16
     }
 
     // A number from 0 to `most` for the table, at a place behind the jobs.
@@ -86,7 +86,7 @@ fn capped(time: u32) -> u16
 fn size_of(draws: Draws) -> usize
     ensures { result ≤ 6 }
 {
-    let n = draws.shared(Purpose::Size, 9) as usize;
+    let n = usize::from(draws.shared(Purpose::Size, 9));
     if n <= 6 { n } else { n - 3 }
 }
 
