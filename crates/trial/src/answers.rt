@@ -38,7 +38,7 @@ impl Answer {
         best.map_or(Answer::NONE, |best| {
             let listed = best.tried.listed;
             let written = bytes::plan_bytes(&listed);
-            let area = written.area;
+            let area = written.list;
             Answer {
                 plan: Ok(Plan {
                     length: written.count,
