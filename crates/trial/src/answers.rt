@@ -25,7 +25,7 @@ impl Answer {
         best.map_or(Answer::NONE, |best| {
             let listed = best.tried.listed;
             let written = bytes::plan_bytes(&listed);
-            let area = written.area;
+            let area = written.list;
             Answer {
                 plan: Ok(Written {
                     bytes: written.count,

@@ -1,9 +1,9 @@
 // Bytes at the front of an area: a table, or a plan in the area that a planner is lent.
 // The area is longer than the longest plan, so that a byte written behind a plan shows.
-ghost use Rattle.std.specs.Prelude.{◌≡◌, ◌+◌, ◌≤◌, ◌++◌, length, take};
-ghost use Rattle.trial.specs.declared.bytes.TheConstants.{AREA};
+ghost use Rattle.std.specs.Prelude.{◌+◌, ◌≤◌};
 
 use crate::jobs::{Job, Jobs};
+use crate::row::Row;
 use crate::steps::Steps;
 
 pub const AREA: usize = 72;
@@ -23,45 +23,13 @@ const SEND_AWAY: u8 = 0x21;
 
 const PLAN_END: u8 = 0x2F;
 
-// The area before it is lent, with a byte in it that is no record's kind.
-pub const UNTOUCHED: [u8; AREA] = [0xA5; AREA];
+// No record's kind.
+const FILLER: u8 = 0xA5;
 
-#[derive(Clone, Copy)]
-pub struct Bytes {
-    pub area: [u8; AREA],
-    pub count: usize,
-    ghost inside: { count ≤ AREA },
-}
+// The area before it is lent.
+pub const UNTOUCHED: [u8; AREA] = [FILLER; AREA];
 
-impl Bytes {
-    // No bytes.
-    fn new() -> Bytes
-        ensures { result.count ≡ 0 }
-    {
-        Bytes {
-            area: UNTOUCHED,
-            count: 0,
-        }
-    }
-
-    // Puts more bytes behind these.
-    fn extend(&mut self, more: &[u8])
-        requires { self.old.count + length more.now ≤ AREA }
-        ensures bytes { take self.new.count self.new.area ≡ take self.old.count self.old.area ++ more.now }
-        ensures count { self.new.count ≡ self.old.count + length more.now }
-    {
-        let end = self.count + more.len();
-        self.area[self.count..end].copy_from_slice(more);
-        self.count = end;
-    }
-
-    pub fn as_slice(&self) -> &[u8]
-        ensures bytes { result.now ≡ take self.now.count self.now.area }
-        ensures len { length result.now ≡ self.now.count }
-    {
-        &self.area[..self.count]
-    }
-}
+pub type Bytes = Row<u8, AREA>;
 
 // Puts a job's record behind the others.
 fn put_job(bytes: &mut Bytes, job: &Job)
@@ -83,19 +51,19 @@ fn put_job(bytes: &mut Bytes, job: &Job)
 
 // A table of these jobs and this deadline.
 pub fn table_bytes(jobs: &Jobs, deadline: u16) -> Bytes {
-    let mut bytes = Bytes::new();
-    bytes.extend(&[FRAME]);
+    let mut bytes = Bytes::none(FILLER);
+    bytes.push(FRAME);
     bytes.extend(&deadline.to_le_bytes());
     for job in jobs.as_slice() {
         put_job(&mut bytes, job);
     }
-    bytes.extend(&[TABLE_END]);
+    bytes.push(TABLE_END);
     bytes
 }
 
 // A plan that lists these steps.
 pub fn plan_bytes(listed: &Steps) -> Bytes {
-    let mut bytes = Bytes::new();
+    let mut bytes = Bytes::none(FILLER);
     for step in listed.as_slice() {
         let kind = if step.back.is_some() {
             SEND_AWAY
@@ -104,6 +72,6 @@ pub fn plan_bytes(listed: &Steps) -> Bytes {
         };
         bytes.extend(&[kind, step.id]);
     }
-    bytes.extend(&[PLAN_END]);
+    bytes.push(PLAN_END);
     bytes
 }

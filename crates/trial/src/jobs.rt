@@ -1,6 +1,5 @@
 // The jobs of a table, up to six of them.
-ghost use Rattle.std.specs.Prelude.{◌≡◌, ◌≤◌, length, take};
-ghost use Rattle.trial.specs.declared.jobs.TheConstants.{MOST_JOBS};
+use crate::row::Row;
 
 pub const MOST_JOBS: usize = 6;
 
@@ -19,27 +18,5 @@ pub struct Job {
     pub away: Option<Away>,
 }
 
-#[derive(Clone, Copy)]
-pub struct Jobs {
-    list: [Job; MOST_JOBS],
-    count: usize,
-    ghost few: { count ≤ MOST_JOBS },
-}
-
-impl Jobs {
-    // The first `count` jobs of a list.
-    pub fn first(list: [Job; MOST_JOBS], count: usize) -> Jobs
-        requires { count ≤ MOST_JOBS }
-        ensures { (result.list ≡ list) × (result.count ≡ count) }
-    {
-        Jobs { list, count }
-    }
-
-    // The jobs, in table order.
-    pub fn as_slice(&self) -> &[Job]
-        ensures jobs { result.now ≡ take self.now.count self.now.list }
-        ensures few { length result.now ≤ MOST_JOBS }
-    {
-        &self.list[..self.count]
-    }
-}
+// In table order.
+pub type Jobs = Row<Job, MOST_JOBS>;

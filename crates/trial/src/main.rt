@@ -8,6 +8,7 @@ mod bytes; // bytes.rt: tables and plans as bytes
 mod choices; // choices.rt: sets of jobs
 mod jobs; // jobs.rt: the jobs of a table
 mod report; // report.rt: the counts and the report
+mod row; // row.rt: items in fixed memory
 mod rules; // rules.rt: what a planner goes by
 mod search; // search.rt: all choices, and the best of them
 mod steps; // steps.rt: the steps of a choice, and when they are done, by trying all orders

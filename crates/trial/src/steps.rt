@@ -1,10 +1,10 @@
 // The steps of a choice: each job of a table, kept here or sent away, in table order or in another one. What an order of them comes to,
 // and the search: the least last finish over all orders of the steps, laid back to back from tick 0.
-ghost use Rattle.std.specs.Prelude.{◌≡◌, ◌≤◌, length, sum_by, take, IfSome, IsPermutation};
-ghost use Rattle.trial.specs.declared.jobs.TheConstants.{MOST_JOBS};
+ghost use Rattle.std.specs.Prelude.{◌≡◌, sum_by, take, IfSome, IsPermutation};
 
 use crate::choices::Choice;
 use crate::jobs::{Job, Jobs, MOST_JOBS};
+use crate::row::Row;
 use crate::rules::Rule;
 
 // How many orders so many steps have.
@@ -19,12 +19,7 @@ pub struct Step {
     pub back: Option<u16>,
 }
 
-#[derive(Clone, Copy)]
-pub struct Steps {
-    list: [Step; MOST_JOBS],
-    count: usize,
-    ghost few: { count ≤ MOST_JOBS },
-}
+pub type Steps = Row<Step, MOST_JOBS>;
 
 // The step of the job at a place; nothing, if it is sent away and the rule does not send it.
 fn step_of(job: &Job, place: usize, away: bool, rule: &impl Rule) -> Option<Step> {
@@ -59,15 +54,11 @@ impl Steps {
     pub fn of(jobs: &Jobs, choice: Choice, rule: &impl Rule) -> Option<Steps>
         ensures { IfSome result (λ steps. steps.count ≡ jobs.now.count) }
     {
-        let jobs = jobs.as_slice();
-        let mut list = [Step::default(); MOST_JOBS];
-        for (place, (step, job)) in list.iter_mut().zip(jobs).enumerate() {
-            *step = step_of(job, place, choice.has(place), rule)?;
+        let mut steps = Steps::none(Step::default());
+        for (place, job) in jobs.as_slice().iter().enumerate() {
+            steps.push(step_of(job, place, choice.has(place), rule)?);
         }
-        Some(Steps {
-            list,
-            count: jobs.len(),
-        })
+        Some(steps)
     }
 
     // The same steps, in the order in which a rule's plan lists them.
@@ -75,15 +66,8 @@ impl Steps {
         ensures { result.count ≡ self.count }
     {
         let count = self.count;
-        rule.list(&mut self.list[..count]);
+        rule.sort(&mut self.list[..count]);
         self
-    }
-
-    pub fn as_slice(&self) -> &[Step]
-        ensures steps { result.now ≡ take self.now.count self.now.list }
-        ensures few { length result.now ≤ MOST_JOBS }
-    {
-        &self.list[..self.count]
     }
 
     // The busy total: the sum of the spans.
@@ -115,7 +99,7 @@ impl Steps {
         let count = self.count;
         let mut list = self.list;
         arrange(&mut list[..count], number);
-        Steps { list, count }
+        Steps::first(list, count)
     }
 
     // The least last finish over all orders of the steps.
