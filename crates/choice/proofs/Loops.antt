@@ -2,7 +2,7 @@
 -- Assumes nothing.
 use mathlib.Core.Path.{◌≡◌, refl, sym, ap, ◌∙◌}
 use mathlib.Core.Bool.{Bool, false}
-use mathlib.Core.List.{List, [], ◌∷◌, ◌++◌, map-append}
+use mathlib.Core.List.{List, [], ◌∷◌, ◌++◌, map, map-append}
 use Prim.Native.Nat.{ℕ, suc, ◌+◌, ◌-◌, ◌/◌, ◌%◌, ◌≤◌, ◌<◌}
 use native.Mathlib.Omega.{arith}
 use native.Mathlib.Numerals.{add-one}
@@ -10,18 +10,23 @@ use lib.Dec.{eqb}
 use lib.ListN.{length, get_or, take, drop, set, replicate, length-map, length-set, length-replicate, drop_of_length-le}
 use lib.Seq.{take-suc, drop-cons, length-take-le, set_at, append_snoc}
 use Rattle.model.specs.declared.Job.{Job}
-use Rattle.model.specs.Recurrence.{base}
+use Rattle.std.specs.List.{sum, sum_by}
+use Rattle.std.proofs.lemmas.List.Sums.{sum-map, sum_by-cons}
+use Rattle.model.specs.Lists.{total}
 use Rattle.model.specs.Positions.{no_job, digits, marked}
-use Rattle.model.proofs.Permutations.{total_append}
 use Rattle.records.specs.Limits.{most_jobs}
-use Rattle.choice.specs.Choices.{here_time, jobs_at}
+use Rattle.choice.specs.Choices.{jobs_at}
 
--- one job more adds what it keeps here in any case
-pub base_more : (jobs : List Job) (k : ℕ) → k < length jobs → base (take (k + 1) jobs) ≡ base (take k jobs) + here_time (get_or jobs k no_job)
-base_more jobs k h = rw (add-one, take-suc jobs k no_job) (omega (arith, total_append here_time (take k jobs) (get_or jobs k no_job ∷ [])))
+-- the sum is that of what each job keeps here in any case
+pub total_sum : (f : Job → ℕ) (js : List Job) → sum (map f js) ≡ total f js
+total_sum f js = sum-map f js ∙ step js
+  where
+    step : (js : List Job) → sum_by f js ≡ total f js
+    step [] = refl
+    step (j ∷ js) = sum_by-cons f j js ∙ ap (λ (n : ℕ). f j + n) (step js)
 
 -- the k-th position's job is put behind those before it
-pub jobs_more : (jobs : List Job) (positions : List ℕ) (k : ℕ) → length positions ≡ most_jobs → k < most_jobs
+pub jobs_more : (jobs : List Job) (positions : List ℕ) (k : ℕ) → length positions ≤ most_jobs → k < length positions
     → set (jobs_at jobs (take k positions) ++ replicate (most_jobs - k) no_job) k (get_or jobs (get_or positions k 0) no_job)
     ≡ jobs_at jobs (take (k + 1) positions) ++ replicate (most_jobs - (k + 1)) no_job
 jobs_more jobs positions k l h =
@@ -42,27 +47,24 @@ jobs_more jobs positions k l h =
     more = omega arith
 
     taken : take (k + 1) positions ≡ take k positions ++ (get_or positions k 0 ∷ [])
-    taken = let i : k < length positions = omega arith in rw (add-one, take-suc positions k 0)
+    taken = rw (add-one, take-suc positions k 0 h)
 
 -- the first k positions are marked: what is left of the mask still marks the others as the whole mask does
-pub record Marking (is : List ℕ) (count mask : ℕ) (flags : List Bool) (left k : ℕ) : Type 0 where
-  pub within : k ≤ count
+pub record Marking (is : List ℕ) (mask : ℕ) (flags : List Bool) (left k : ℕ) : Type 0 where
   pub size : length flags ≡ most_jobs
-  pub rest : marked (drop k is) (digits (count - k) left) flags ≡ marked is (digits count mask) (replicate most_jobs false)
+  pub rest : marked (drop k is) (digits (length is - k) left) flags ≡ marked is (digits (length is) mask) (replicate most_jobs false)
 
-module _ (is : List ℕ) (count mask : ℕ) where
-  pub marking_none : Marking is count mask (replicate most_jobs false) mask 0
-  marking_none = let z : count - 0 ≡ count = omega arith in record { within = omega arith; size = length-replicate most_jobs false; rest = rw z refl }
+module _ (is : List ℕ) (mask : ℕ) where
+  pub marking_none : Marking is mask (replicate most_jobs false) mask 0
+  marking_none = let z : length is - 0 ≡ length is = omega arith in record { size = length-replicate most_jobs false; rest = rw z refl }
 
-  module _ (whole : length is ≡ count) (flags : List Bool) (left k : ℕ) (m : Marking is count mask flags left k) where
-    pub marking_more : (i : ℕ) → get_or is k 0 ≡ i → k < count → Marking is count mask (set flags i (eqb (left % 2) 1)) (left / 2) (k + 1)
-    marking_more i e h =
-        let n : count - k ≡ suc (count - suc k) = omega arith in
-        let l : k < length is = omega arith in
-        record { within = omega arith; size = length-set flags i _ ∙ m.size; rest = rw (← e, add-one) (rw (n, drop-cons is k 0) at m.rest) }
+  module _ (flags : List Bool) (left k : ℕ) (m : Marking is mask flags left k) where
+    pub marking_more : k < length is → Marking is mask (set flags (get_or is k 0) (eqb (left % 2) 1)) (left / 2) (k + 1)
+    marking_more h =
+        let n : length is - k ≡ suc (length is - suc k) = omega arith in
+        record { size = length-set flags (get_or is k 0) _ ∙ m.size; rest = rw add-one (rw (n, drop-cons is k 0) at m.rest) }
 
-    pub marking_all : count ≤ k → flags ≡ marked is (digits count mask) (replicate most_jobs false)
+    pub marking_all : length is ≤ k → flags ≡ marked is (digits (length is) mask) (replicate most_jobs false)
     marking_all h =
-        let n : count - k ≡ 0 = omega arith in
-        let l : length is ≤ k = omega arith in
-        rw (n, drop_of_length-le is l) at m.rest
+        let n : length is - k ≡ 0 = omega arith in
+        rw (n, drop_of_length-le is h) at m.rest

@@ -6,7 +6,7 @@ use mathlib.Core.Path.{◌≡◌, refl, sym, ap, subst, ◌∙◌}
 use mathlib.Core.Logic.{◌⊎◌, inl, inr, ◌↔◌, ⊎_elim}
 use mathlib.Core.Bool.{Bool, true, false, cond, not, ◌&&◌, ◌||◌, or-true}
 use mathlib.Core.List.{List, [], ◌∷◌, ◌++◌, map, Memᴰ, append-nil}
-use Rattle.std.specs.Prelude.{None, Some, Err, Ok}
+use Rattle.std.specs.Prelude.{None, Some, Err}
 use lib.Seq.{append_snoc}
 use lib.Dec.{T, leb}
 use borrow.Author.Tests.{leb-true, leb-false, ne_eqb}

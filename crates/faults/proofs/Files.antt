@@ -16,8 +16,9 @@ use Rattle.model.specs.Lists.{All}
 use Rattle.model.proofs.Lists.{all_map, all_append, pairwise_append, member_all}
 use Rattle.records.specs.declared.refusal.Place.{Place}
 use Rattle.records.specs.declared.refusal.Refusal.{Refusal}
-use Rattle.records.specs.declared.refusal.Refusal.TheVariants.{Range, Many, After}
+use Rattle.records.specs.declared.refusal.Refusal.TheVariants.{Kind, Range, Many, After}
 use Rattle.records.specs.declared.kind.Meaning.{Meaning}
+use Rattle.records.specs.declared.kind.Form.{Form}
 use Rattle.records.specs.Limits.{most_jobs}
 use Rattle.records.specs.Refusals.{past, refused}
 use Rattle.records.specs.Records.{form_of, judged, Parsed, one, last, bad, list_from}
@@ -160,11 +161,15 @@ module _
   unfolding flat_map
   listed_or_fault rest bytes = rw append-nil at (told_from most_jobs [] rest (omega arith) (record { few = omega arith; distinct = tt; each = tt }) bytes)
 
+-- a byte that is none of these kinds means nothing that may stand there
+abbrev pub Others : {K : Type 0} → (Meaning → Option K) → List (ℕ × ℕ) → ℕ → Option Form → Type 0
+Others may kinds k o = All (λ (r : ℕ × ℕ). ¬ (k ≡ r.0)) kinds → (f : Form) → o ≡ Some f → may f.meaning ≡ None
+
 -- A record that is not read is refused by what is judged of every record, where the kinds that may stand there are these.
 module _
     {K R : Type 0} (refuse : Refusal → R) (read : Place → K → R) (may : Meaning → Option K) (kinds : List (ℕ × ℕ))
-    (others : (k : ℕ) → All (λ (r : ℕ × ℕ). ¬ (k ≡ r.0)) kinds → may (form_of k).meaning ≡ None)
-    (these : All (λ (r : ℕ × ℕ). (j : K) × (may (form_of r.0).meaning ≡ Some j) × ((form_of r.0).body ≡ r.1)) kinds)
+    (others : (k : ℕ) → Others may kinds k (form_of k))
+    (these : All (λ (r : ℕ × ℕ). (f : Form) × (form_of r.0 ≡ Some f) × (j : K) × (may f.meaning ≡ Some j) × (f.body ≡ r.1)) kinds)
     (s : List ℕ) (p : Place) where
   pub unread_refused : {rest : List ℕ} {f : Refusal} → Unread kinds p rest f → drop p.at s ≡ rest → judged refuse read may s p ≡ refuse f
   unread_refused no_byte e =
@@ -172,11 +177,16 @@ module _
       records.no_byte refuse read may s p (omega arith)
   unread_refused (not_allowed {k} h) e =
       let size = long s p _ e in
-      records.not_allowed refuse read may s p refl (omega arith) (rw (kind_byte s p _ e) (others k h))
+      step (form_of k) refl
+    where
+      step : (o : Option Form) → form_of k ≡ o → judged refuse read may s p ≡ refuse (Kind p)
+      step None is = records.unknown refuse read may s p (ap form_of (kind_byte s p _ e) ∙ is) (omega (arith, long s p _ e))
+      step (Some f) is =
+          records.not_allowed refuse read may s p (ap form_of (kind_byte s p _ e) ∙ is) (omega (arith, long s p _ e)) (others k h f is)
   unread_refused (cut {k} {n} {more} m h) e =
       let size = long s p _ e in
       let known = member_all _ these m in
-      records.cut refuse read may s p {f = form_of k} (ap form_of (sym (kind_byte s p _ e))) (omega arith) known.0 known.1 (omega (arith, known.2))
+      records.cut refuse read may s p (ap form_of (kind_byte s p _ e) ∙ known.1) (omega arith) known.2 known.3 (omega (arith, known.4))
 
 -- The place behind records by their bytes is where going from record to record leads.
 pub behind_more : (rs : List (List ℕ)) (r : List ℕ) → 1 ≤ length r → behind (rs ++ (r ∷ [])) ≡ over (behind rs) r

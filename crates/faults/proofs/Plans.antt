@@ -5,28 +5,29 @@ use mathlib.Core.Path.{◌≡◌, refl, sym, ap, subst, ◌∙◌}
 use mathlib.Core.Logic.{◌⊎◌, inl, inr, ◌↔◌}
 use mathlib.Core.Bool.{Bool, true, false, cond}
 use mathlib.Core.List.{List, [], ◌∷◌, ◌++◌, flat_map}
-use Rattle.std.specs.Prelude.{None, Some}
+use Rattle.std.specs.Prelude.{None, Some, Err}
 use lib.ListN.{length, drop}
 use borrow.Author.Tests.{le-ltb}
 use Rattle.model.specs.Lists.{All}
-use Rattle.model.proofs.Lists.{all_all, member_all}
+use Rattle.model.proofs.Lists.{all_all, clash, member_all}
 use Rattle.records.specs.declared.refusal.Place.{Place}
 use Rattle.records.specs.declared.refusal.Refusal.{Refusal}
 use Rattle.records.specs.declared.refusal.Refusal.TheVariants.{Many}
 use Rattle.records.specs.declared.kind.StepKind.{StepKind}
 use Rattle.records.specs.declared.kind.StepKind.TheVariants.{HereStep, AwayStep, EndStep}
+use Rattle.records.specs.declared.kind.Meaning.{Meaning}
+use Rattle.records.specs.declared.kind.Meaning.TheVariants.{Frame, Row}
 use Rattle.records.specs.declared.kind.Form.{Form}
 use Rattle.records.specs.Limits.{most_jobs}
 use Rattle.records.specs.Refusals.{Outcome, accepted, refused}
-use Rattle.records.specs.Records.{form_of, step_only, bad}
+use Rattle.records.specs.Records.{form, form_of, step_only, bad, parsed}
 use Rattle.records.proofs.Records.{step_byte, form_all}
 use Rattle.plan.specs.declared.Step.{Step}
-use Rattle.plan.specs.declared.RecordRead.TheVariants.{RecordRefused}
-use Rattle.plan.specs.Plans.{step_body, record_at, step_parsed, step_id, read_plan, step_bytes}
+use Rattle.plan.specs.Plans.{step_body, record_at, step_id, read_plan, step_bytes}
 use Rattle.plan.proofs.Steps.{plan_entry}
 use Rattle.plan.proofs.Plans.{plan_flat, opens, step_back, end_back, plan_back}
 use Rattle.faults.specs.Faults.{step_kinds, Unread, NoTimes, GoodPlan, PlanFault, PlanIs}
-use Rattle.faults.proofs.Files.{Whole, listed_or_fault, unread_refused, fault_refused, exactly, exactly_one}
+use Rattle.faults.proofs.Files.{Others, Whole, listed_or_fault, unread_refused, fault_refused, exactly, exactly_one}
 
 -- of a plan's bytes nothing need be known
 abbrev Any : ℕ → Type 0
@@ -52,26 +53,29 @@ not_step HereStep h = h.0 refl
 not_step AwayStep h = h.1.0 refl
 not_step EndStep h = h.1.1.0 refl
 
-others : (k : ℕ) → All (λ (r : ℕ × ℕ). ¬ (k ≡ r.0)) step_kinds → step_only (form_of k).meaning ≡ None
+others : (k : ℕ) → Others step_only step_kinds k (form_of k)
 others k =
-    form_all (λ (b : ℕ) (f : Form). All (λ (r : ℕ × ℕ). ¬ (b ≡ r.0)) step_kinds → step_only f.meaning ≡ None)
-    (λ h. refl) (λ j h. refl) (λ j h. absurd (not_step j h)) (λ b h. refl) k
+    form_all (Others step_only step_kinds)
+    (λ h f e. other Frame refl f e) (λ j h f e. other (Row j) refl f e) (λ j h f e. absurd (not_step j h)) (λ b h f e. clash (cc)) k
+  where
+    other : (m : Meaning) {n : ℕ} → step_only m ≡ None → (f : Form) → form m n ≡ Some f → step_only f.meaning ≡ None
+    other m q f e = let is : m ≡ f.meaning = cc in rw is at q
 
-these : All (λ (r : ℕ × ℕ). (j : StepKind) × (step_only (form_of r.0).meaning ≡ Some j) × ((form_of r.0).body ≡ r.1)) step_kinds
+these : All (λ (r : ℕ × ℕ). (f : Form) × (form_of r.0 ≡ Some f) × (j : StepKind) × (step_only f.meaning ≡ Some j) × (f.body ≡ r.1)) step_kinds
 unfolding form_of
-these = ((HereStep, refl, refl), ((AwayStep, refl, refl), ((EndStep, refl, refl), tt)))
+these = ((_, refl, HereStep, refl, refl), ((_, refl, AwayStep, refl, refl), ((_, refl, EndStep, refl, refl), tt)))
 
 module _ (s : List ℕ) (p : Place) (n : ℕ) where
   is_unread : (rest : List ℕ) (f : Refusal) → Unread step_kinds p rest f → drop p.at s ≡ rest → plan_entry s p n ≡ bad f
   unfolding record_at
-  is_unread rest f u e = ap step_parsed (unread_refused RecordRefused (step_body s p n) step_only step_kinds others these s p u e)
+  is_unread rest f u e = ap parsed (unread_refused Err (step_body s p n) step_only step_kinds others these s p u e)
 
   is_many : (x : Step) (more : List ℕ) → drop p.at s ≡ step_bytes x ++ more → most_jobs ≤ n → plan_entry s p n ≡ bad (Many p)
   is_many x more e h = go x.away e
     where
       go : (away : Bool) → drop p.at s ≡ cond away 0x21 0x20 ∷ x.id ∷ more → plan_entry s p n ≡ bad (Many p)
-      go true b = ap step_parsed (opens s p n AwayStep (x.id ∷ more) b (omega arith)) ∙ simp (le-ltb n most_jobs h)
-      go false b = ap step_parsed (opens s p n HereStep (x.id ∷ more) b (omega arith)) ∙ simp (le-ltb n most_jobs h)
+      go true b = ap parsed (opens s p n AwayStep (x.id ∷ more) b (omega arith)) ∙ simp (le-ltb n most_jobs h)
+      go false b = ap parsed (opens s p n HereStep (x.id ∷ more) b (omega arith)) ∙ simp (le-ltb n most_jobs h)
 
 -- every byte string is a plan's or has a fault
 pub plan_or_fault : (s : List ℕ) → (o : Outcome (List Step)) × PlanIs s o

@@ -1,6 +1,6 @@
 -- The readers' and the check's own contracts, in document 01's numbers: whatever they allow says ns exactly when the account of specs/ says ns.
 -- Assumes nothing.
-use Rattle.std.specs.Prelude.{Result}
+use Rattle.std.specs.Prelude.{Result, Ok}
 use Prim.Native.Nat.{ℕ}
 use mathlib.Core.Path.{◌≡◌, refl, sym, ap, subst, ◌∙◌}
 use mathlib.Core.Logic.{◌⊎◌, inl, inr, ◌↔◌}
@@ -10,9 +10,10 @@ use Rattle.model.specs.Lists.{All}
 use Rattle.model.specs.Timetable.{Chosen}
 use Rattle.model.specs.FreeOrder.{busy, last_from}
 use Rattle.model.proofs.Lists.{clash}
-use Rattle.table.specs.declared.TableRead.{TableRead}
+use Rattle.records.specs.declared.refusal.Refusal.{Refusal}
+use Rattle.table.specs.declared.Table.{Table}
 use Rattle.records.specs.Refusals.{refusal_says, Outcome, accepted, refused}
-use Rattle.table.specs.Tables.{JobTable, job_table, table_read, verdict_says, table_bytes}
+use Rattle.table.specs.Tables.{JobTable, job_table, table_of, table_read, verdict_says, table_bytes}
 use Rattle.table.proofs.Accepted.{held_table}
 use Rattle.records.proofs.Refusals.{says_not_zero}
 use Rattle.plan.specs.declared.Step.{Step}
@@ -30,15 +31,15 @@ use Rattle.faults.proofs.Checks.{Timed, on_time, too_late, timed_is, runs_full, 
 use Rattle.faults.proofs.Numbers.{table_placed, plan_placed, misfit_number}
 
 -- The table's reader.
-module _ (s : List ℕ) (r : TableRead) (allows : TableAllows s r) where
+module _ (s : List ℕ) (r : Result Table Refusal) (allows : TableAllows s r) where
   -- what is said of what the bytes are
-  says_table : (ns : List ℕ) → TableSays s ns → verdict_says r.verdict ≡ ns
-  says_table ns (a_table t is) = ap (λ (x : TableRead). verdict_says x.verdict) (allows ∙ ap table_read (table_read_lem s (accepted t) is))
-  says_table ns (table_fault f is) = ap (λ (x : TableRead). verdict_says x.verdict) (allows ∙ ap table_read (table_read_lem s (refused f) is))
+  says_table : (ns : List ℕ) → TableSays s ns → verdict_says r ≡ ns
+  says_table ns (a_table t is) = ap verdict_says (allows ∙ ap table_read (table_read_lem s (accepted t) is))
+  says_table ns (table_fault f is) = ap verdict_says (allows ∙ ap table_read (table_read_lem s (refused f) is))
 
-  -- where it says 0, it holds the table
-  pub table_held : (t : JobTable) → TableIs s (accepted t) → job_table r.table ≡ t
-  table_held t is = ap (λ (x : TableRead). job_table x.table) (allows ∙ ap table_read (table_read_lem s (accepted t) is)) ∙ held_table t
+  -- where the bytes are a table's, it holds the table
+  pub table_held : (t : JobTable) → TableIs s (accepted t) → (u : Table) × (r ≡ Ok u) × (job_table u ≡ t)
+  table_held t is = (table_of t.deadline t.jobs, allows ∙ ap table_read (table_read_lem s (accepted t) is), held_table t)
 
   module _ (bytes : All Byte s) where
     something : (ns : List ℕ) × TableSays s ns
@@ -48,12 +49,12 @@ module _ (s : List ℕ) (r : TableRead) (allows : TableAllows s r) where
         step (accepted t) is = (0 ∷ [], a_table t is)
         step (refused f) is = (refusal_says f, table_fault f is)
 
-    pub table_says : (ns : List ℕ) → (verdict_says r.verdict ≡ ns) ↔ TableSays s ns
-    table_says = exactly (TableSays s) (verdict_says r.verdict) something says_table
+    pub table_says : (ns : List ℕ) → (verdict_says r ≡ ns) ↔ TableSays s ns
+    table_says = exactly (TableSays s) (verdict_says r) something says_table
 
     -- 0, or a number from 1 to 6 and a place in the file or its length
-    pub table_number : (verdict_says r.verdict ≡ 0 ∷ []) ⊎ FaultAt (length s) (verdict_says r.verdict)
-    table_number = step ((table_says (verdict_says r.verdict)).0 refl)
+    pub table_number : (verdict_says r ≡ 0 ∷ []) ⊎ FaultAt (length s) (verdict_says r)
+    table_number = step ((table_says (verdict_says r)).0 refl)
       where
         step : {ns : List ℕ} → TableSays s ns → (ns ≡ 0 ∷ []) ⊎ FaultAt (length s) ns
         step (a_table t is) = inl refl
@@ -61,18 +62,21 @@ module _ (s : List ℕ) (r : TableRead) (allows : TableAllows s r) where
 
 -- so two byte strings that are read as the same table are equal
 pub read_injective :
-    (s u : List ℕ) → All Byte s → All Byte u → (r : TableRead) → TableAllows s r → TableAllows u r → verdict_says r.verdict ≡ 0 ∷ [] → s ≡ u
+    (s u : List ℕ) → All Byte s → All Byte u → (r : Result Table Refusal) → TableAllows s r → TableAllows u r → verdict_says r ≡ 0 ∷ [] → s ≡ u
 read_injective s u bs bu r first second whole =
     let t = the_table s ((table_says s r first bs (0 ∷ [])).0 whole) refl in
     let v = the_table u ((table_says u r second bu (0 ∷ [])).0 whole) refl in
-    t.1.1 ∙ (ap table_bytes (sym (table_held s r first t.0 t.1) ∙ table_held u r second v.0 v.1) ∙ sym v.1.1)
+    let a = table_held s r first t.0 t.1 in
+    let b = table_held u r second v.0 v.1 in
+    let same : a.0 ≡ b.0 = let e = sym a.1 ∙ b.1 in cc in
+    t.1.1 ∙ (ap table_bytes (sym a.2 ∙ ap job_table same ∙ b.2) ∙ sym v.1.1)
   where
     the_table : (l : List ℕ) {ns : List ℕ} → TableSays l ns → ns ≡ 0 ∷ [] → (t : JobTable) × TableIs l (accepted t)
     the_table l (a_table t is) e = (t, is)
     the_table l (table_fault f is) e = absurd (says_not_zero f [] e)
 
 -- The plan's reader.
-module _ (s : List ℕ) (r : (Result ℕ Refusal)) (allows : PlanAllows s r) where
+module _ (s : List ℕ) (r : Result ℕ Refusal) (allows : PlanAllows s r) where
   says_plan : (ns : List ℕ) → PlanSays s ns → plan_read_says r ≡ ns
   says_plan ns (a_plan xs is) = ap plan_read_says (allows ∙ ap plan_read (plan_read_lem s (accepted xs) is))
   says_plan ns (plan_fault f is) = ap plan_read_says (allows ∙ ap plan_read (plan_read_lem s (refused f) is))

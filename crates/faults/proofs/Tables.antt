@@ -5,7 +5,7 @@ use mathlib.Core.Path.{◌≡◌, refl, sym, ap, subst, ◌∙◌}
 use mathlib.Core.Logic.{◌⊎◌, inl, inr, ◌↔◌}
 use mathlib.Core.Bool.{Bool, true, false, cond, ◌&&◌}
 use mathlib.Core.List.{List, [], ◌∷◌, ◌++◌, map, flat_map}
-use Rattle.std.specs.Prelude.{None, Some}
+use Rattle.std.specs.Prelude.{None, Some, Ok, Err}
 use lib.ListN.{length, drop}
 use lib.Dec.{ltb}
 use borrow.Author.Tests.{lt-ltb, le-ltb, le-leb, ltb-true, leb-true}
@@ -19,25 +19,26 @@ use Rattle.octets.proofs.Numbers.{two_from, two_whole, two_parts}
 use Rattle.records.specs.declared.refusal.Place.{Place}
 use Rattle.records.specs.declared.refusal.Refusal.{Refusal}
 use Rattle.records.specs.declared.refusal.Refusal.TheVariants.{Range, Many}
+use Rattle.records.specs.declared.kind.FrameKind.{FrameKind}
 use Rattle.records.specs.declared.kind.RowKind.{RowKind}
 use Rattle.records.specs.declared.kind.RowKind.TheVariants.{HereRow, EitherRow, EndRow}
+use Rattle.records.specs.declared.kind.Meaning.{Meaning}
+use Rattle.records.specs.declared.kind.Meaning.TheVariants as means
 use Rattle.records.specs.declared.kind.Form.{Form}
-use Rattle.table.specs.declared.FrameRead.TheVariants.{FrameIs, FrameRefused}
-use Rattle.table.specs.declared.JobRead.TheVariants.{JobRefused}
 use Rattle.records.specs.Limits.{most_jobs, largest_time}
 use Rattle.records.specs.Refusals.{start, past, Outcome, accepted, refused}
-use Rattle.records.specs.Records.{form_of, frame_only, row_only, bad}
-use Rattle.table.specs.Tables.{JobTable, TimesOk, time_ok, deadline_at, frame_at, row_body, job_at, job_parsed}
+use Rattle.records.specs.Records.{form, form_of, frame_only, row_only, bad, parsed}
+use Rattle.table.specs.Tables.{JobTable, TimesOk, time_ok, deadline_at, frame_at, row_body, job_at}
 use Rattle.table.specs.Tables.{job_id, jobs_read, after_frame, with_deadline, read_table}
 use Rattle.table.specs.Tables.{sending_bytes, job_bytes, table_bytes}
-use Rattle.records.proofs.Records.{row_byte, form_all, frame_form, opened}
+use Rattle.records.proofs.Records.{row_byte, form_all, frame_form, whole}
 use Rattle.model.proofs.Tests.{both}
 use Rattle.table.proofs.Tables.{row_parsed}
 use Rattle.table.proofs.Written.{jobs_flat}
 use Rattle.table.proofs.ReadBack.{row_open, job_any, job_back, end_back, bytes_read}
 use Rattle.faults.specs.Faults.{Byte, joined, behind, frame_kinds, row_kinds, Unread, ListFault, fault, GoodList, DeadlineOk, frame_bytes}
 use Rattle.faults.specs.Faults.{TableFault, in_frame, deadline, in_row, TableIs}
-use Rattle.faults.proofs.Files.{Whole, unread_or_whole, listed_or_fault, unread_refused, fault_refused, exactly, exactly_one}
+use Rattle.faults.proofs.Files.{Others, Whole, unread_or_whole, listed_or_fault, unread_refused, fault_refused, exactly, exactly_one}
 
 -- two bytes are a number's
 word_is : (l : List ℕ) → 2 ≤ length l → All Byte l → (w : ℕ) × (more : List ℕ) × (l ≡ two_bytes w ++ more) × (length l ≡ 2 + length more) × All Byte more
@@ -94,28 +95,34 @@ frame_is rest w bytes =
     (number_is w.more (subst (All Byte) w.is bytes).1, tt) w.allowed w.there)
 
 -- the kinds of a table's records
-frame_others : (k : ℕ) → All (λ (r : ℕ × ℕ). ¬ (k ≡ r.0)) frame_kinds → frame_only (form_of k).meaning ≡ None
+frame_others : (k : ℕ) → Others frame_only frame_kinds k (form_of k)
 frame_others k =
-    form_all (λ (b : ℕ) (f : Form). All (λ (r : ℕ × ℕ). ¬ (b ≡ r.0)) frame_kinds → frame_only f.meaning ≡ None)
-    (λ h. absurd (h.0 refl)) (λ j h. refl) (λ j h. refl) (λ b h. refl) k
+    form_all (Others frame_only frame_kinds)
+    (λ h f e. absurd (h.0 refl)) (λ j h f e. other (means.Row j) refl f e) (λ j h f e. other (means.Step j) refl f e) (λ b h f e. clash (cc)) k
+  where
+    other : (m : Meaning) {n : ℕ} → frame_only m ≡ None → (f : Form) → form m n ≡ Some f → frame_only f.meaning ≡ None
+    other m q f e = let is : m ≡ f.meaning = cc in rw is at q
 
 not_row : (k : RowKind) → All (λ (r : ℕ × ℕ). ¬ (row_byte k ≡ r.0)) row_kinds → ⊥
 not_row HereRow h = h.0 refl
 not_row EitherRow h = h.1.0 refl
 not_row EndRow h = h.1.1.0 refl
 
-row_others : (k : ℕ) → All (λ (r : ℕ × ℕ). ¬ (k ≡ r.0)) row_kinds → row_only (form_of k).meaning ≡ None
+row_others : (k : ℕ) → Others row_only row_kinds k (form_of k)
 row_others k =
-    form_all (λ (b : ℕ) (f : Form). All (λ (r : ℕ × ℕ). ¬ (b ≡ r.0)) row_kinds → row_only f.meaning ≡ None)
-    (λ h. refl) (λ j h. absurd (not_row j h)) (λ j h. refl) (λ b h. refl) k
+    form_all (Others row_only row_kinds)
+    (λ h f e. other means.Frame refl f e) (λ j h f e. absurd (not_row j h)) (λ j h f e. other (means.Step j) refl f e) (λ b h f e. clash (cc)) k
+  where
+    other : (m : Meaning) {n : ℕ} → row_only m ≡ None → (f : Form) → form m n ≡ Some f → row_only f.meaning ≡ None
+    other m q f e = let is : m ≡ f.meaning = cc in rw is at q
 
-frame_these : All (λ (r : ℕ × ℕ). (j : Unit {0}) × (frame_only (form_of r.0).meaning ≡ Some j) × ((form_of r.0).body ≡ r.1)) frame_kinds
+frame_these : All (λ (r : ℕ × ℕ). (f : Form) × (form_of r.0 ≡ Some f) × (j : FrameKind) × (frame_only f.meaning ≡ Some j) × (f.body ≡ r.1)) frame_kinds
 unfolding form_of
-frame_these = ((tt, refl, refl), tt)
+frame_these = ((_, refl, record {}, refl, refl), tt)
 
-row_these : All (λ (r : ℕ × ℕ). (j : RowKind) × (row_only (form_of r.0).meaning ≡ Some j) × ((form_of r.0).body ≡ r.1)) row_kinds
+row_these : All (λ (r : ℕ × ℕ). (f : Form) × (form_of r.0 ≡ Some f) × (j : RowKind) × (row_only f.meaning ≡ Some j) × (f.body ≡ r.1)) row_kinds
 unfolding form_of
-row_these = ((HereRow, refl, refl), ((EitherRow, refl, refl), ((EndRow, refl, refl), tt)))
+row_these = ((_, refl, HereRow, refl, refl), ((_, refl, EitherRow, refl, refl), ((_, refl, EndRow, refl, refl), tt)))
 
 -- Times in range or not, and a deadline, as they are judged.
 abbrev fine : ℕ → Sending → Bool
@@ -150,7 +157,7 @@ fails false h out = refl
 module _ (s : List ℕ) (p : Place) (n : ℕ) where
   is_unread : (rest : List ℕ) (f : Refusal) → Unread row_kinds p rest f → drop p.at s ≡ rest → row_parsed s p n ≡ bad f
   unfolding job_at
-  is_unread rest f u e = ap job_parsed (unread_refused JobRefused (row_body s p n) row_only row_kinds row_others row_these s p u e)
+  is_unread rest f u e = ap parsed (unread_refused Err (row_body s p n) row_only row_kinds row_others row_these s p u e)
 
   is_many : (id C : ℕ) (d : Sending) (more : List ℕ) → drop p.at s ≡ sending_bytes id C d ++ more → most_jobs ≤ n → row_parsed s p n ≡ bad (Many p)
   is_many id C HereOnly more e h = row_open s p _ e n HereRow refl (omega arith) ∙ simp (le-ltb n most_jobs h)
@@ -178,11 +185,11 @@ next_place D = refl
 
 frame_reads :
     (D : ℕ) (more : List ℕ) →
-    frame_at (frame_bytes D ++ more) start ≡ cond (ltb 0 D && time_ok D) (FrameIs D (past start 2)) (FrameRefused (Range start))
+    frame_at (frame_bytes D ++ more) start ≡ cond (ltb 0 D && time_ok D) (Ok (D, past start 2)) (Err (Range start))
 unfolding frame_at
 frame_reads D more =
     let s = frame_bytes D ++ more in
-    opened FrameRefused (λ (next : Place) (u : Unit {0}). deadline_at s start next) frame_only s start (sym frame_form) (omega arith) tt refl (omega arith) ∙
+    whole Err (λ (next : Place) (k : FrameKind). deadline_at s start next) frame_only s start frame_form (omega arith) (record {}) refl (omega arith) ∙
     simp (two_whole D)
 
 pub table_flat : (D : ℕ) (js : List Job) → table_bytes (record { deadline = D; jobs = js }) ≡ frame_bytes D ++ flat_map job_bytes js ++ (0x1F ∷ [])
@@ -225,14 +232,14 @@ fault_read : {s : List ℕ} {f : Refusal} → TableFault s f → read_table s �
 unfolding read_table frame_at jobs_read
 fault_read {s} (in_frame u) =
     ap (after_frame s)
-    (unread_refused FrameRefused (λ (next : Place) (v : Unit {0}). deadline_at s start next) frame_only frame_kinds frame_others frame_these s start
+    (unread_refused Err (λ (next : Place) (k : FrameKind). deadline_at s start next) frame_only frame_kinds frame_others frame_these s start
     (rw first_place at u) refl)
 fault_read (deadline D more out) =
-    let first : frame_at (frame_bytes D ++ more) start ≡ FrameRefused (Range start) = frame_reads D more ∙ rw (fails _ (deadline_iff D) out) in
+    let first : frame_at (frame_bytes D ++ more) start ≡ Err (Range start) = frame_reads D more ∙ rw (fails _ (deadline_iff D) out) in
     rw first_place (ap (after_frame (frame_bytes D ++ more)) first)
 fault_read {s} {f} (in_row D ok y) =
     let more = begins D y in
-    let first : frame_at s start ≡ FrameIs D (past start 2) =
+    let first : frame_at s start ≡ Ok (D, past start 2) =
     ap (λ (l : List ℕ). frame_at l start) more.1 ∙ (frame_reads D more.0 ∙ rw ((deadline_iff D).1 ok)) in
     let jobs : jobs_read s (past start 2) ≡ refused f =
     rw (← next_place D)

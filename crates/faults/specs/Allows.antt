@@ -5,7 +5,8 @@ use contract.Lifetimes.{Lfts}
 use Rattle.std.specs.Borrow.{Bor, MutBor}
 use denote.Triple.Entry.{Args, Res}
 use denote.Triple.Clauses.{Ended, AtExit}
-use Rattle.table.specs.declared.TableRead.{TableRead}
+use Rattle.records.specs.declared.refusal.Refusal.{Refusal}
+use Rattle.table.specs.declared.Table.{Table}
 use Rattle.table.proofs as table
 use Rattle.plan.proofs as plan
 use Rattle.judge.specs.Check.{Checked}
@@ -22,10 +23,10 @@ to x = record { ref_ptr = (0, 0); now = x }
 abbrev pub to_mut : {A : Type 0} → A → MutBor A
 to_mut x = record { ref_ptr = (0, 0); ghost_name = 0; now = x }
 
-abbrev pub TableAllows : List ℕ → TableRead → Type 0
+abbrev pub TableAllows : List ℕ → Result Table Refusal → Type 0
 TableAllows s r = table.read_table.Reads.Learnt ([], tt) (to s, tt) r (to s, tt)
 
-abbrev pub PlanAllows : List ℕ → (Result ℕ Refusal) → Type 0
+abbrev pub PlanAllows : List ℕ → Result ℕ Refusal → Type 0
 PlanAllows s r = plan.read_plan.Reads.Learnt ([], tt) (to s, tt) r (to s, tt)
 
 abbrev pub CheckAllows : List ℕ → List ℕ → Checked → Type 0

@@ -1,6 +1,6 @@
 -- Document 01, 'The check' and 'Refusal numbers': what a table and a plan come to, told with neither reader nor check.
 -- That `check_plan` says exactly this is proved in proofs/Checks.antt. Assumes nothing.
-use Rattle.std.specs.Prelude.{ℕ, ◌≤◌, ◌≡◌, true, false, length, Err, Ok}
+use Rattle.std.specs.Prelude.{ℕ, ◌≤◌, ◌≡◌, true, false, length, Err}
 use mathlib.Core.List.{List, [], ◌∷◌, ◌++◌, map, Memᴰ, Permᴰ}
 use Rattle.model.specs.declared.Job.{Job}
 use Rattle.model.specs.Lists.{All}

@@ -1,12 +1,13 @@
 -- The two passes that make a free-order plan, each a listing of the jobs that pass a test: the flagged ones in away order, the others in table order.
 -- Assumes nothing.
-use mathlib.Core.Path.{◌≡◌, refl, sym, ap, ◌∙◌}
+use mathlib.Core.Path.{◌≡◌, refl, sym, ap, subst, ◌∙◌}
+use mathlib.Core.Logic.{◌⊎◌, inl, inr}
 use mathlib.Core.Bool.{Bool, true, false, not}
 use mathlib.Core.List.{List, [], ◌∷◌, ◌++◌}
 use Prim.Native.Nat.{ℕ, ◌+◌, ◌≤◌, ◌<◌}
 use native.Mathlib.Omega.{arith}
-use lib.ListN.{length, get_or, take, length-map, get_or-map}
-use lib.Seq.{get_or-take}
+use lib.ListN.{length, get_or, drop, length-map, get_or-map}
+use Rattle.std.proofs.lemmas.List.{drop_more, length-drop}
 use Rattle.model.specs.declared.Job.{Job}
 use Rattle.model.specs.Lists.{All, filter}
 use Rattle.model.specs.Timetable.{Chosen, here, span}
@@ -20,13 +21,11 @@ use Rattle.model.proofs.Bounds.{span_short}
 use Rattle.model.proofs.Flags.{choose_away, choose_jobs}
 use Rattle.records.specs.Limits.{largest_time, most_jobs}
 use Rattle.table.specs.Tables.{TimesOk}
-use Rattle.choice.specs.declared.Prepared.{Prepared}
-use Rattle.choice.specs.Choices.{SoundJobs, prepared_of, jobs_at}
-use Rattle.choice.proofs.AwayJobs.{order_jobs, positions_few}
-use Rattle.choice.proofs.Held.{held_positions, held_jobs}
+use Rattle.choice.specs.Choices.{SoundJobs, jobs_at}
+use Rattle.choice.proofs.AwayJobs.{order_jobs, as_many, positions_few}
 use Rattle.draft.specs.declared.Draft.{Draft}
 use Rattle.draft.specs.Drafts.{draft_of, with_if}
-use Rattle.draft.proofs.Drafts.{Roomy, Listing, listing_end, listing_room, listing_more}
+use Rattle.draft.proofs.Drafts.{listing_begin, Roomy, Listing, listing_end, listing_room, listing_more}
 use Rattle.free.specs.Parts.{in_away_order, HereRoom}
 use Rattle.plan.proofs.Steps.{steps_length}
 
@@ -57,16 +56,27 @@ choose_short [] flags a = tt
 choose_short (j ∷ js) [] a = (span_short largest_time (chosen j false) a.0.local a.0.setup, choose_short js [] a.1)
 choose_short (j ∷ js) (f ∷ flags) a = (span_short largest_time (chosen j f) a.0.local a.0.setup, choose_short js flags a.1)
 
+-- what is left of a list after k elements, with its first
+module _ {A : Type 0} (xs left rest : List A) (x : A) (k : ℕ) (e : left ≡ drop k xs) (h : left ≡ x ∷ rest) where
+  left_more : k < length xs
+  left_more = omega (arith, length-drop k xs, ap length (sym e ∙ h))
+
+  parted : (d : A) → get_or xs k d ∷ drop (k + 1) xs ≡ x ∷ rest
+  parted d = sym (drop_more xs k d left_more) ∙ (sym e ∙ h)
+
+  left_first : (d : A) → get_or xs k d ≡ x
+  left_first d = cc (parted d)
+
+  left_rest : rest ≡ drop (k + 1) xs
+  left_rest = cc (parted x)
+
 -- The away jobs.
 
--- what `away_part` takes out of what is prepared
-pub record Prepares (js : List Job) (count : ℕ) (at : List ℕ) (jobs : List Job) : Type 0 where
-  pub counted : count ≡ length (positions js)
-  pub placed : take count at ≡ positions js
-  pub ordered : take count jobs ≡ jobs_in_away_order js
-
-pub prepares : (p : Prepared) (js : List Job) → p ≡ prepared_of js → Prepares js p.count p.positions p.jobs
-prepares p js e = record { counted = ap (λ (q : Prepared). q.count) e; placed = held_positions p js e; ordered = held_jobs p js e }
+-- k positions are passed, and these positions and jobs are left
+pub record Away (js : List Job) (flags : List Bool) (draft : Draft) (at : List ℕ) (jobs : List Job) (k : ℕ) : Type 0 where
+  pub listing : Listing is_away [] (in_away_order js flags) draft k
+  pub at_left : at ≡ drop k (positions js)
+  pub jobs_left : jobs ≡ drop k (jobs_in_away_order js)
 
 module _ (js : List Job) (sound : SoundJobs js) (flags : List Bool) where
   abbrev cs : List Chosen
@@ -75,7 +85,7 @@ module _ (js : List Job) (sound : SoundJobs js) (flags : List Bool) where
   first : Chosen
   first = get_or (choose js flags) 0 no_choice
 
-  pub away_count : length cs ≡ length (positions js)
+  away_count : length cs ≡ length (positions js)
   away_count = length-map (positions js) (λ (i : ℕ). get_or (choose js flags) i no_choice)
 
   pub away_short : All (λ (c : Chosen). span c ≤ largest_time) cs
@@ -84,7 +94,7 @@ module _ (js : List Job) (sound : SoundJobs js) (flags : List Bool) where
       (all_map (λ (i : ℕ) (h : i < length js). all_at (λ (c : Chosen). span c ≤ largest_time) (choose js flags) no_choice
       (choose_short js flags sound.times) i (omega (arith, choose_length js flags))) (positions js) (positions_below js))
 
-  pub away_roomy : Roomy is_away [] cs
+  away_roomy : Roomy is_away [] cs
   away_roomy =
       record {
         few = omega (arith, filter_length is_away cs, away_count, positions_few js, sound.few);
@@ -92,71 +102,114 @@ module _ (js : List Job) (sound : SoundJobs js) (flags : List Bool) where
         early = omega arith;
       }
 
-  module _ (count : ℕ) (at : List ℕ) (jobs : List Job) (p : Prepares js count at jobs) where
-    -- the k-th of them, as the code finds it
-    away_next : (k : ℕ) → k < count → get_or cs k first ≡ chosen (get_or jobs k no_job) (get_or flags (get_or at k 0) false)
+  pub away_start : (draft : Draft) → draft ≡ draft_of [] → Away js flags draft (positions js) (jobs_in_away_order js) 0
+  away_start draft e = record { listing = listing_begin is_away [] cs draft e; at_left = refl; jobs_left = refl }
+
+  pub away_end : (draft : Draft) (at : List ℕ) (jobs : List Job) (k : ℕ) → Away js flags draft at jobs k → (length at ≡ 0) ⊎ (length jobs ≡ 0)
+      → draft ≡ draft_of (filter is_away cs)
+  away_end draft at jobs k a h = listing_end is_away [] cs draft k (done h) a.listing
+    where
+      done : (length at ≡ 0) ⊎ (length jobs ≡ 0) → length cs ≤ k
+      done (inl e) = omega (arith, away_count, length-drop k (positions js), ap length a.at_left)
+      done (inr e) = omega (arith, away_count, as_many js, length-drop k (jobs_in_away_order js), ap length a.jobs_left)
+
+  module _ (draft : Draft) (at : List ℕ) (jobs : List Job) (k : ℕ) (a : Away js flags draft at jobs k) (i : ℕ) (is : List ℕ) (j : Job) (os : List Job)
+      (p : at ≡ i ∷ is) (q : jobs ≡ j ∷ os) where
+    at_more : k < length (positions js)
+    at_more = left_more (positions js) at is i k a.at_left p
+
+    this : get_or (positions js) k 0 ≡ i
+    this = left_first (positions js) at is i k a.at_left p 0
+
+    below : i < length js
+    below = subst (λ (n : ℕ). n < length js) this (all_at (λ (n : ℕ). n < length js) (positions js) 0 (positions_below js) k at_more)
+
+    pub away_here : i < most_jobs
+    away_here = omega (arith, below, sound.few)
+
+    -- the job at this position
+    job : get_or js i no_job ≡ j
+    job =
+        ap (λ (n : ℕ). get_or js n no_job) (sym this)
+        ∙ (sym (get_or-map (λ (n : ℕ). get_or js n no_job) (positions js) k 0)
+        ∙ (sym (at_any (jobs_at js (positions js)) k no_job (get_or js 0 no_job) (rw (length-map (positions js) (λ (n : ℕ). get_or js n no_job)) at_more))
+        ∙ (ap (λ (l : List Job). get_or l k no_job) (sym (order_jobs js)) ∙ left_first (jobs_in_away_order js) jobs os j k a.jobs_left q no_job)))
+
+    at_next : get_or cs k first ≡ chosen j (get_or flags i false)
     unfolding first
-    away_next k h =
-        let l : k < length (positions js) = omega (arith, p.counted) in
-        let position : get_or at k 0 ≡ get_or (positions js) k 0 = sym (get_or-take count at k 0 h) ∙ ap (λ (is : List ℕ). get_or is k 0) p.placed in
-        let job : get_or jobs k no_job ≡ get_or js (get_or (positions js) k 0) no_job =
-        sym (get_or-take count jobs k no_job h) ∙ (ap (λ (os : List Job). get_or os k no_job) (p.ordered ∙ order_jobs js)
-        ∙ (at_any (jobs_at js (positions js)) k no_job (get_or js 0 no_job) (rw (length-map (positions js) (λ (i : ℕ). get_or js i no_job)) l)
-        ∙ get_or-map (λ (i : ℕ). get_or js i no_job) (positions js) k 0)) in
-        get_or-map (λ (i : ℕ). get_or (choose js flags) i no_choice) (positions js) k 0
-        ∙ (choose_at js flags (get_or (positions js) k 0) (all_at (λ (i : ℕ). i < length js) (positions js) 0 (positions_below js) k l) ∙ rw (position, job))
+    at_next =
+        get_or-map (λ (n : ℕ). get_or (choose js flags) n no_choice) (positions js) k 0
+        ∙ (ap (λ (n : ℕ). get_or (choose js flags) n no_choice) this
+        ∙ (choose_at js flags i below ∙ ap (λ (o : Job). chosen o (get_or flags i false)) job))
 
-    pub away_room : (draft : Draft) (k : ℕ) → k < count → Listing is_away [] cs draft k → get_or flags (get_or at k 0) false ≡ true
-        → (draft.plan.count < most_jobs) × (draft.laid.busy ≤ most_busy)
-    away_room draft k h l e =
-        listing_room is_away [] cs away_roomy draft k l (chosen (get_or jobs k no_job) (get_or flags (get_or at k 0) false)) first
-        (omega (arith, away_count, p.counted)) (away_next k h) e
+    pub away_room : get_or flags i false ≡ true → (draft.plan.count < most_jobs) × (draft.laid.busy ≤ most_busy)
+    away_room e =
+        listing_room is_away [] cs away_roomy draft k a.listing (chosen j (get_or flags i false)) first (omega (arith, away_count, at_more)) at_next e
 
-    pub away_more : (draft r : Draft) (k : ℕ) → k < count → Listing is_away [] cs draft k
-        → r ≡ with_if draft (get_or flags (get_or at k 0) false) (chosen (get_or jobs k no_job) true) → Listing is_away [] cs r (k + 1)
-    away_more draft r k h l e =
-        rw (e, listed_away draft (get_or flags (get_or at k 0) false) (get_or jobs k no_job))
-        (listing_more is_away [] cs away_roomy draft k l (chosen (get_or jobs k no_job) (get_or flags (get_or at k 0) false)) first
-        (omega (arith, away_count, p.counted)) (away_next k h))
+    pub away_more : (r : Draft) → r ≡ with_if draft (get_or flags i false) (chosen j true) → Away js flags r is os (k + 1)
+    away_more r e =
+        record {
+          listing =
+              rw (e, listed_away draft (get_or flags i false) j)
+              (listing_more is_away [] cs away_roomy draft k a.listing (chosen j (get_or flags i false)) first (omega (arith, away_count, at_more)) at_next);
+          at_left = left_rest (positions js) at is i k a.at_left p;
+          jobs_left = left_rest (jobs_in_away_order js) jobs os j k a.jobs_left q;
+        }
 
-    pub away_end : (draft : Draft) (k : ℕ) → count ≤ k → Listing is_away [] cs draft k → draft ≡ draft_of (filter is_away cs)
-    away_end draft k h l = listing_end is_away [] cs draft k (omega (arith, away_count, p.counted)) l
+-- The here jobs, behind those of `front`.
 
--- The here jobs.
+-- k jobs are passed, and these jobs and flags are left
+pub record Here (jobs : List Job) (flags : List Bool) (before : List Chosen) (draft : Draft) (left : List Job) (fs : List Bool) (k : ℕ) : Type 0 where
+  pub listing : Listing here before (choose jobs flags) draft k
+  pub jobs_left : left ≡ drop k jobs
+  pub flags_left : fs ≡ drop k flags
 
-module _ (jobs : List Job) (count : ℕ) (flags : List Bool) (front : Draft) (whole : length (take count jobs) ≡ count)
-    (room : HereRoom front (choose (take count jobs) flags)) where
+module _ (jobs : List Job) (flags : List Bool) (front : Draft) (room : HereRoom front (choose jobs flags)) where
   abbrev hs : List Chosen
-  hs = choose (take count jobs) flags
+  hs = choose jobs flags
 
-  -- whichever jobs the draft is of, there is room behind them
-  here_roomy : (before : List Chosen) → front ≡ draft_of before → Roomy here before hs
-  here_roomy before e =
-      let same : draft_of room.before ≡ draft_of before = sym room.held ∙ e in
-      let n : length room.before ≡ length before = sym (steps_length room.before) ∙ (ap (λ (d : Draft). d.plan.count) same ∙ steps_length before) in
-      let b : busy room.before ≡ busy before = ap (λ (d : Draft). d.laid.busy) same in
-      record { few = omega (arith, room.few); short = room.short; early = rw (n, b) at room.early }
+  here_many : length hs ≡ length jobs
+  here_many = choose_length jobs flags
 
-  here_next : (i : ℕ) → i < count → get_or hs i no_choice ≡ chosen (get_or jobs i no_job) (get_or flags i false)
-  here_next i h = choose_at (take count jobs) flags i (omega arith) ∙ rw (get_or-take count jobs i no_job h)
+  module _ (before : List Chosen) (held : front ≡ draft_of before) where
+    -- whichever jobs the draft is of, there is room behind them
+    here_roomy : Roomy here before hs
+    here_roomy =
+        let same : draft_of room.before ≡ draft_of before = sym room.held ∙ held in
+        let n : length room.before ≡ length before = sym (steps_length room.before) ∙ (ap (λ (d : Draft). d.plan.count) same ∙ steps_length before) in
+        let b : busy room.before ≡ busy before = ap (λ (d : Draft). d.laid.busy) same in
+        record { few = omega (arith, room.few); short = room.short; early = rw (n, b) at room.early }
 
-  here_many : length hs ≡ count
-  here_many = choose_length (take count jobs) flags ∙ whole
+    pub here_start : Here jobs flags before front jobs flags 0
+    here_start = record { listing = listing_begin here before hs front held; jobs_left = refl; flags_left = refl }
 
-  pub here_room : (draft : Draft) (i : ℕ) → i < count → ((before : List Chosen) → front ≡ draft_of before → Listing here before hs draft i)
-      → not (get_or flags i false) ≡ true
-      → (draft.plan.count < most_jobs) × (draft.laid.busy ≤ most_busy)
-  here_room draft i h l e =
-      listing_room here room.before hs (here_roomy room.before room.held) draft i (l room.before room.held)
-      (chosen (get_or jobs i no_job) (get_or flags i false)) no_choice (omega (arith, here_many)) (here_next i h) e
+    pub here_end : length jobs ≤ length flags → (draft : Draft) (left : List Job) (fs : List Bool) (k : ℕ) → Here jobs flags before draft left fs k
+        → (length left ≡ 0) ⊎ (length fs ≡ 0) → draft ≡ draft_of (before ++ filter here hs)
+    here_end l draft left fs k h z = listing_end here before hs draft k (done z) h.listing
+      where
+        done : (length left ≡ 0) ⊎ (length fs ≡ 0) → length hs ≤ k
+        done (inl e) = omega (arith, here_many, length-drop k jobs, ap length h.jobs_left)
+        done (inr e) = omega (arith, here_many, length-drop k flags, ap length h.flags_left)
 
-  pub here_more : (draft r : Draft) (i : ℕ) → i < count → ((before : List Chosen) → front ≡ draft_of before → Listing here before hs draft i)
-      → r ≡ with_if draft (not (get_or flags i false)) (chosen (get_or jobs i no_job) false) → (before : List Chosen) → front ≡ draft_of before
-      → Listing here before hs r (i + 1)
-  here_more draft r i h l e before held =
-      rw (e, listed_here draft (get_or flags i false) (get_or jobs i no_job))
-      (listing_more here before hs (here_roomy before held) draft i (l before held) (chosen (get_or jobs i no_job) (get_or flags i false)) no_choice
-      (omega (arith, here_many)) (here_next i h))
+    module _ (draft : Draft) (left : List Job) (fs : List Bool) (k : ℕ) (h : Here jobs flags before draft left fs k) (j : Job) (js : List Job) (w : Bool) (ws : List Bool)
+        (p : left ≡ j ∷ js) (q : fs ≡ w ∷ ws) where
+      more : k < length jobs
+      more = left_more jobs left js j k h.jobs_left p
 
-  pub here_end : (draft : Draft) (i : ℕ) → count ≤ i → (before : List Chosen) → Listing here before hs draft i → draft ≡ draft_of (before ++ filter here hs)
-  here_end draft i h before l = listing_end here before hs draft i (omega (arith, here_many)) l
+      next : get_or hs k no_choice ≡ chosen j w
+      next =
+          choose_at jobs flags k more
+          ∙ rw (left_first jobs left js j k h.jobs_left p no_job, left_first flags fs ws w k h.flags_left q false) refl
+
+      pub here_room : not w ≡ true → (draft.plan.count < most_jobs) × (draft.laid.busy ≤ most_busy)
+      here_room e = listing_room here before hs here_roomy draft k h.listing (chosen j w) no_choice (omega (arith, here_many, more)) next e
+
+      pub here_more : (r : Draft) → r ≡ with_if draft (not w) (chosen j false) → Here jobs flags before r js ws (k + 1)
+      here_more r e =
+          record {
+            listing =
+                rw (e, listed_here draft w j)
+                (listing_more here before hs here_roomy draft k h.listing (chosen j w) no_choice (omega (arith, here_many, more)) next);
+            jobs_left = left_rest jobs left js j k h.jobs_left p;
+            flags_left = left_rest flags fs ws w k h.flags_left q;
+          }

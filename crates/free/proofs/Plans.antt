@@ -1,8 +1,7 @@
 -- The two parts, one behind the other, are the plan of the best choice.
 -- Assumes nothing.
 use mathlib.Core.Path.{◌≡◌, refl, sym, ap, ◌∙◌}
-use mathlib.Core.Bool.{true, false}
-use mathlib.Core.List.{List, [], ◌++◌}
+use mathlib.Core.List.{List, ◌++◌}
 use Rattle.std.specs.Prelude.{None, Some}
 use Prim.Native.Nat.{ℕ, ◌≤◌}
 use native.Mathlib.Omega.{arith}
@@ -19,7 +18,6 @@ use Rattle.model.proofs.PlanOrder.{perm_plan}
 use Rattle.model.proofs.Positions.{order_positions}
 use Rattle.model.proofs.Free.{answer_choice}
 use Rattle.records.specs.Limits.{most_jobs, largest_time}
-use Rattle.choice.specs.declared.BestMask.TheVariants.{Mask, Nothing}
 use Rattle.choice.specs.Choices.{SoundJobs, flags_of, best_mask_of}
 use Rattle.draft.specs.declared.Draft.{Draft}
 use Rattle.draft.specs.Drafts.{draft_of, drafted_of}
@@ -32,14 +30,14 @@ pub plan_many : (cs : List Chosen) → (js : List Job) → Choice js cs → leng
 plan_many cs js c = length_perm (perm_plan cs c.allowed)
 
 module _ (js : List Job) (sound : SoundJobs js) (D : ℕ) where
-  pub found_nothing : Nothing ≡ best_mask_of (answer D js) → None ≡ drafted_of (free most_jobs D js)
+  pub found_nothing : None ≡ best_mask_of (answer D js) → None ≡ drafted_of (free most_jobs D js)
   found_nothing e = step (answer D js) refl e
     where
-      step : (c : Cell) → answer D js ≡ c → Nothing ≡ best_mask_of c → None ≡ drafted_of (free most_jobs D js)
+      step : (c : Cell) → answer D js ≡ c → None ≡ best_mask_of c → None ≡ drafted_of (free most_jobs D js)
       step empty q f = ap (λ (c : Cell). drafted_of (plan_found most_jobs js c)) (sym q)
       step (cell a m) q f = clash (cc)
 
-  module _ (m : ℕ) (e : Mask m ≡ best_mask_of (answer D js)) where
+  module _ (m : ℕ) (e : Some m ≡ best_mask_of (answer D js)) where
     abbrev cs : List Chosen
     cs = choose js (flags_of js m)
 
@@ -49,7 +47,7 @@ module _ (js : List Job) (sound : SoundJobs js) (D : ℕ) where
     with_total : (a : ℕ) × (answer D js ≡ cell a m)
     with_total = step (answer D js) refl e
       where
-        step : (c : Cell) → answer D js ≡ c → Mask m ≡ best_mask_of c → (a : ℕ) × (answer D js ≡ cell a m)
+        step : (c : Cell) → answer D js ≡ c → Some m ≡ best_mask_of c → (a : ℕ) × (answer D js ≡ cell a m)
         step empty q f = clash (cc)
         step (cell a n) q f = let s : n ≡ m = cc in (a, q ∙ ap (cell a) s)
 

@@ -1,7 +1,7 @@
 // The free-order planner on a table that is read: the best choice's away jobs in away order, then its here jobs in table order.
 #![tactic(auto)]
 
-ghost use Rattle.std.specs.Prelude.{◌≡◌, List, ◌++◌, ◌≤◌, take};
+ghost use Rattle.std.specs.Prelude.{◌≡◌, List, ◌++◌, ◌≤◌, length};
 ghost use Rattle.model.specs.declared.Job.{Job};
 ghost use Rattle.model.specs.Lists.{filter};
 ghost use Rattle.model.specs.Timetable.{Chosen, here};
@@ -13,41 +13,32 @@ ghost use Rattle.table.specs.Tables.{job_table, Sound};
 ghost use Rattle.choice.specs.Choices.{SoundJobs, prepared_of, Ready};
 ghost use Rattle.free.specs.Parts.{in_away_order, HereRoom};
 
-use choice::{BestMask, Prepared};
+use choice::Prepared;
 use draft::Draft;
 use model::Job;
 use table::Table;
 
 // The jobs that are flagged away, in away order.
-fn away_part(p: Prepared, flags: [bool; Table::MOST_JOBS]) -> Draft
-    requires { Ready p }
-    ensures { (js : List Job) → SoundJobs js → p ≡ prepared_of js → result ≡ draft_of (filter is_away (in_away_order js flags)) }
+fn away_part(p: &Prepared, flags: &[bool; Table::MOST_JOBS]) -> Draft
+    requires { Ready p.now }
+    ensures { (js : List Job) → SoundJobs js → p.now ≡ prepared_of js → result ≡ draft_of (filter is_away (in_away_order js flags.now)) }
 {
-    let count = p.count;
-    let positions = p.positions;
-    let jobs = p.jobs;
     let mut draft = Draft::empty();
-    for k in 0..count {
-        let position = positions[k];
-        draft = draft.with_if(flags[position], jobs[k], true);
+    for (position, job) in p.order.as_slice().iter().zip(p.away_jobs()) {
+        draft = draft.with_if(flags[*position], *job, true);
     }
     draft
 }
 
 // Behind them the jobs that are not, in table order.
-fn here_part(
-    front: Draft,
-    jobs: [Job; Table::MOST_JOBS],
-    count: usize,
-    flags: [bool; Table::MOST_JOBS],
-) -> Draft
-    requires { (count ≤ most_jobs) × HereRoom front (choose (take count jobs) flags) }
-    ensures { (cs : List Chosen) → HereRoom front (choose (take count jobs) flags) → front ≡ draft_of cs
-        → result ≡ draft_of (cs ++ filter here (choose (take count jobs) flags)) }
+fn here_part(front: Draft, jobs: &[Job], flags: &[bool; Table::MOST_JOBS]) -> Draft
+    requires { (length jobs.now ≤ most_jobs) × HereRoom front (choose jobs.now flags.now) }
+    ensures { (cs : List Chosen) → HereRoom front (choose jobs.now flags.now) → front ≡ draft_of cs
+        → result ≡ draft_of (cs ++ filter here (choose jobs.now flags.now)) }
 {
     let mut draft = front;
-    for i in 0..count {
-        draft = draft.with_if(!flags[i], jobs[i], false);
+    for (job, away) in jobs.iter().zip(flags) {
+        draft = draft.with_if(!away, *job, false);
     }
     draft
 }
@@ -57,13 +48,9 @@ pub fn free_plan(t: &Table) -> Option<Draft>
     requires { Sound t.now }
     ensures { result ≡ drafted_of (free most_jobs t.now.deadline (job_table t.now).jobs) }
 {
-    let p = choice::prepare(*t);
-    let found = choice::best_choice(t.deadline, p);
-    let BestMask::Mask(mask) = found else {
-        return None;
-    };
-    let flags = choice::flags_of(p, mask);
-    let front = away_part(p, flags);
-    let jobs = t.jobs;
-    Some(here_part(front, jobs, t.count, flags))
+    let p = choice::prepare(t);
+    let mask = choice::best_choice(t.deadline, &p)?;
+    let flags = choice::flags_of(&p, mask);
+    let front = away_part(&p, &flags);
+    Some(here_part(front, &t.jobs[..t.count], &flags))
 }

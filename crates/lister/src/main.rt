@@ -2,7 +2,6 @@
 // The first 267 bytes settle the text (crate listing, proofs/Settled.antt), so input beyond the buffer's 4,096 changes nothing.
 #![tactic(auto)]
 
-use listing::Listed;
 use std::io;
 
 fn main(rt: HostRuntime) -> io::Result<()> {
@@ -10,7 +9,7 @@ fn main(rt: HostRuntime) -> io::Result<()> {
     let n = input::fill(&mut rt.reader(), &mut table)?;
     let mut out = [0u8; 1024];
     match listing::list_plan(&table[..n], &mut out) {
-        Listed::Text(m) => rt.write_all(&out[..m]),
-        Listed::NoRoom => Ok(()),
+        Some(m) => rt.write_all(&out[..m]),
+        None => Ok(()),
     }
 }

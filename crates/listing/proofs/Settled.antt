@@ -3,7 +3,7 @@
 use mathlib.Core.Path.{◌≡◌, refl, ap}
 use mathlib.Core.Bool.{Bool, true, false, cond}
 use mathlib.Core.List.{List, [], ◌∷◌, ◌++◌, map}
-use Rattle.std.specs.Prelude.{Option, None, Some}
+use Rattle.std.specs.Prelude.{Option, None, Some, Result, Err}
 use Prim.Native.Nat.{ℕ, zero, suc, ◌+◌, ◌-◌, ◌≤◌, ◌<◌}
 use native.Mathlib.Omega.{arith}
 use lib.ListN.{length, take, get_or, length-take}
@@ -11,8 +11,10 @@ use lib.Seq.{get_or-take}
 use lib.Dec.{ltb, leb}
 use borrow.Author.Tests.{ltb-true, ltb-false, leb-true, leb-false, lt-ltb, le-ltb, le-leb, lt-leb}
 use Rattle.model.specs.declared.Job.{Job}
+use Rattle.model.proofs.Lists.{clash}
 use Rattle.records.specs.declared.refusal.Refusal.{Refusal}
 use Rattle.records.specs.declared.refusal.Refusal.TheVariants.{Short, Twice, After}
+use Rattle.records.specs.declared.kind.FrameKind.{FrameKind}
 use Rattle.records.specs.declared.kind.RowKind.{RowKind}
 use Rattle.records.specs.declared.kind.RowKind.TheVariants.{HereRow, EitherRow, EndRow}
 use Rattle.records.specs.declared.kind.StepKind.{StepKind}
@@ -20,13 +22,10 @@ use Rattle.records.specs.declared.kind.StepKind.TheVariants.{HereStep, AwayStep,
 use Rattle.records.specs.declared.kind.Meaning.{Meaning}
 use Rattle.records.specs.declared.kind.Form.{Form}
 use Rattle.records.specs.declared.refusal.Place.{Place}
-use Rattle.table.specs.declared.FrameRead.{FrameRead}
-use Rattle.table.specs.declared.FrameRead.TheVariants.{FrameRefused}
-use Rattle.table.specs.declared.JobRead.TheVariants.{JobRefused}
 use Rattle.records.specs.Limits.{most_jobs}
 use Rattle.records.specs.Refusals.{start, past, Outcome, accepted, refused}
-use Rattle.records.specs.Records.{form_of, frame_only, row_only, allowed, judged, Parsed, one, last, bad, used, follow, list_from}
-use Rattle.table.specs.Tables.{deadline_at, frame_at, row_body, job_at, job_parsed, job_id, jobs_read, with_deadline, after_frame, read_table}
+use Rattle.records.specs.Records.{form_of, frame_only, row_only, allowed, known, judged, parsed, Parsed, one, last, bad, used, follow, list_from}
+use Rattle.table.specs.Tables.{deadline_at, frame_at, row_body, job_at, job_id, jobs_read, with_deadline, after_frame, read_table}
 use Rattle.records.proofs.Records.{row_length, step_length, form_all}
 use Rattle.table.proofs.Tables.{frame_all, row_parsed, row_is}
 use Rattle.listing.specs.Listing.{outcome_text, text_of}
@@ -44,8 +43,14 @@ step_short HereStep = omega arith
 step_short AwayStep = omega arith
 step_short EndStep = omega arith
 
-body_short : (b : ℕ) → (form_of b).body ≤ 7
-body_short = form_all (λ (n : ℕ) (f : Form). f.body ≤ 7) (omega arith) row_short step_short (λ n. omega arith)
+body_short : (b : ℕ) (f : Form) → form_of b ≡ Some f → f.body ≤ 7
+body_short =
+    form_all (λ (n : ℕ) (o : Option Form). (f : Form) → o ≡ Some f → f.body ≤ 7)
+    (λ f e. of_length 2 f (cc) (omega arith)) (λ k f e. of_length (row_length k) f (cc) (row_short k))
+    (λ k f e. of_length (step_length k) f (cc) (step_short k)) (λ n f e. clash (cc))
+  where
+    of_length : (n : ℕ) (f : Form) → n ≡ f.body → n ≤ 7 → f.body ≤ 7
+    of_length n f e h = rw e at h
 
 module _ (s : List ℕ) (N : ℕ) (enough : 267 ≤ N) where
   abbrev front : List ℕ
@@ -82,19 +87,23 @@ module _ (s : List ℕ) (N : ℕ) (enough : 267 ≤ N) where
       ((next : Place) (k : K) → read' next k ≡ read next k) → judged refuse read' may front p ≡ judged refuse read may s p
   unfolding judged
   judged_same {K} {R} refuse read read' may p h same =
-      let form = form_of (get_or s p.at 0) in
-      rw (byte p.at (omega arith), here_same p.at (omega arith), whole_same p.at form.body (omega (arith, body_short (get_or s p.at 0))))
-      (ap (λ (r : R). cond (ltb p.at (length s)) r (refuse (Short p)))
-      (meant form.body (leb form.body (length s - (p.at + 1))) (may form.meaning)))
+      rw (byte p.at (omega arith), here_same p.at (omega arith))
+      (ap (λ (r : R). cond (ltb p.at (length s)) r (refuse (Short p))) (known_same (form_of (get_or s p.at 0)) refl))
     where
       meant : (body : ℕ) (whole : Bool) (o : Option K) → allowed refuse read' p body whole o ≡ allowed refuse read p body whole o
       meant body whole None = refl
       meant body whole (Some k) = ap (λ (r : R). cond whole r (refuse (Short p))) (same (past p body) k)
 
+      known_same : (o : Option Form) → form_of (get_or s p.at 0) ≡ o → known refuse read' may front p o ≡ known refuse read may s p o
+      known_same None told = refl
+      known_same (Some f) told =
+          let short = body_short (get_or s p.at 0) f told in
+          rw (whole_same p.at f.body (omega arith)) (meant f.body (leb f.body (length s - (p.at + 1))) (may f.meaning))
+
   frame_same : frame_at front start ≡ frame_at s start
   unfolding frame_at
   frame_same =
-      judged_same FrameRefused (λ (next : Place) (u : Unit {0}). deadline_at s start next) (λ (next : Place) (u : Unit {0}). deadline_at front start next)
+      judged_same Err (λ (next : Place) (k : FrameKind). deadline_at s start next) (λ (next : Place) (k : FrameKind). deadline_at front start next)
       frame_only start (omega arith)
       (λ next u. rw (byte 1 (omega arith), byte 2 (omega arith)))
 
@@ -114,7 +123,7 @@ module _ (s : List ℕ) (N : ℕ) (enough : 267 ≤ N) where
 
   row_same : (p : Place) (n : ℕ) → p.at + 8 ≤ N → row_parsed front p n ≡ row_parsed s p n
   unfolding job_at
-  row_same p n h = ap job_parsed (judged_same JobRefused (row_body s p n) (row_body front p n) row_only p h (body_same p n h))
+  row_same p n h = ap parsed (judged_same Err (row_body s p n) (row_body front p n) row_only p h (body_same p n h))
 
   -- and so are all records
   list_same :
@@ -147,7 +156,7 @@ module _ (s : List ℕ) (N : ℕ) (enough : 267 ≤ N) where
   unfolding read_table jobs_read
   read_settled =
       rw frame_same
-      (frame_all s start (λ (a : FrameRead). after_frame front a ≡ after_frame s a)
+      (frame_all s start (λ (a : Result (ℕ × Place) Refusal). after_frame front a ≡ after_frame s a)
       (λ f. refl)
       (λ kind whole low high. ap (with_deadline _) (list_same (suc most_jobs) [] (past start 2) near_first)))
 

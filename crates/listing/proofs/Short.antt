@@ -24,7 +24,7 @@ use Rattle.records.specs.Limits.{most_jobs}
 use Rattle.records.specs.Refusals.{refusal_says, Outcome, accepted, refused}
 use Rattle.table.specs.Tables.{JobTable, read_table}
 use Rattle.table.proofs.Accepted.{accepted_good}
-use Rattle.planner.proofs.Orders.{free_many}
+use Rattle.planner.specs.Orders.{free_many}
 use Rattle.octets.proofs.Decimals.{few_digits}
 use Rattle.lines.specs.Lines.{refused_text}
 use Rattle.lines.proofs.Lines.{pair_length}

@@ -1,6 +1,6 @@
 -- What the lister's code goes by: the job of an id in the table, a plan's steps with their jobs, and the text of what was made.
 -- Assumes nothing.
-use Rattle.std.specs.Prelude.{Bool, cond, List, ◌++◌, map, ℕ}
+use Rattle.std.specs.Prelude.{Bool, List, ◌++◌, map, ℕ}
 use Rattle.std.specs.Prelude.{Option, None, Some}
 use Rattle.model.specs.declared.Job.{Job}
 use Rattle.model.specs.Timetable.{Chosen, Placed}
@@ -16,7 +16,6 @@ use Rattle.plan.specs.declared.Plan.{Plan}
 use Rattle.plan.specs.declared.Step.{Step}
 use Rattle.plan.specs.Plans.{steps_of}
 use Rattle.draft.specs.declared.Draft.{Draft}
-use Rattle.draft.specs.declared.Drafted.{Drafted}
 use Rattle.lines.specs.Lines.{refused_text}
 use Rattle.listing.specs.Listing.{first_line, job_lines, last_line}
 
@@ -46,5 +45,6 @@ step_lines t p = job_lines (laid 0 (chosen_for (job_table t).jobs (steps_of p)))
 unfoldable pub draft_text : Table → Draft → List ℕ
 draft_text t d = first_line t.deadline t.count ++ step_lines t d.plan ++ last_line d.laid.busy d.laid.last
 
-unfoldable pub made_text : Table → Drafted → List ℕ
-made_text t m = cond m.found (draft_text t m.draft) (refused_text (refusal_says R.None))
+abbrev pub made_text : Table → Option Draft → List ℕ
+made_text t (Some d) = draft_text t d
+made_text t None = refused_text (refusal_says R.None)

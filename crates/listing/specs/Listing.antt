@@ -12,8 +12,6 @@ use Rattle.table.specs.Tables.{JobTable, read_table}
 use Rattle.octets.specs.Decimals.{decimal}
 use Rattle.lines.specs.Lines.{space, newline, pair_line}
 use Rattle.lines.specs.Lines.{refused_text}
-use Rattle.listing.specs.declared.Listed.{Listed}
-use Rattle.listing.specs.declared.Listed.TheVariants.{Text, NoRoom}
 
 -- "The fixed words are compared byte by byte in the tests": each with the spaces around it, as the code writes it.
 
@@ -84,12 +82,12 @@ abbrev pub room_for_text : ℕ
 room_for_text = 1024
 
 -- The answer's number and values: 0 and the text's length, or ROOM's number.
-abbrev pub listed_says : Listed → List ℕ
-listed_says (Text n) = 0 ∷ n ∷ []
-listed_says NoRoom = refusal_says R.Room
+abbrev pub listed_says : Option ℕ → List ℕ
+listed_says (Some n) = 0 ∷ n ∷ []
+listed_says None = refusal_says R.Room
 
 -- the text stands at the front of the buffer and the rest is left; where there is no room for every text, all of it is left
-pub data Lists (s before : List ℕ) (r : Listed) (after : List ℕ) : Type 0 where
+pub data Lists (s before : List ℕ) (r : Option ℕ) (after : List ℕ) : Type 0 where
   no_room : length before < room_for_text → listed_says r ≡ refusal_says R.Room → after ≡ before → Lists s before r after
   text_written :
       room_for_text ≤ length before → listed_says r ≡ 0 ∷ length (text_of s) ∷ [] → after ≡ text_of s ++ drop (length (text_of s)) before →

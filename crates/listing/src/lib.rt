@@ -6,25 +6,18 @@ ghost use Rattle.std.specs.Prelude.{◌≡◌, ◌++◌, ◌+◌, ◌≤◌, len
 ghost use Rattle.model.specs.Laying.{most_busy};
 ghost use Rattle.model.specs.Positions.{no_job};
 ghost use Rattle.records.specs.Limits.{most_jobs};
-ghost use Rattle.table.specs.Tables.{job_table};
+ghost use Rattle.draft.specs.declared.Draft.{Draft};
 ghost use Rattle.octets.specs.Decimals.{decimal};
 ghost use Rattle.octets.specs.Writing.{Wrote};
 ghost use Rattle.lines.specs.Lines.{refused_room};
 ghost use Rattle.listing.specs.Found.{placed, step_lines, draft_text, made_text};
 ghost use Rattle.listing.specs.Listing.{choice_word, job_line, Lists};
 
-use draft::{Draft, Drafted};
-use model::{Job, Sending};
+use draft::Draft;
+use model::{Job, Laid, Sending};
 use plan::Plan;
 use records::refusal::Refusal;
-use table::{Table, TableVerdict};
-
-// The text's length, or no room for the longest text.
-#[derive(Clone, Copy)]
-pub enum Listed {
-    Text(usize),
-    NoRoom,
-}
+use table::Table;
 
 // A job's choice and its start.
 fn put_start(out: &mut [u8], at: usize, away: bool, start: usize) -> usize
@@ -51,12 +44,11 @@ fn put_job_line(out: &mut [u8], at: usize, job: Job, away: bool, start: usize) -
 }
 
 // The i-th job of the table, and one of no length behind the last.
-fn job_at(t: Table, i: usize) -> Job
-    requires { t.count ≤ most_jobs }
-    ensures { result ≡ get_or (job_table t).jobs i no_job }
+fn job_at(jobs: &[Job], i: usize) -> Job
+    ensures { result ≡ get_or jobs.now i no_job }
 {
-    if i < t.count {
-        return t.jobs[i];
+    if i < jobs.len() {
+        return jobs[i];
     }
     Job {
         id: 0,
@@ -66,71 +58,56 @@ fn job_at(t: Table, i: usize) -> Job
 }
 
 // A line for each step of the plan, back to back from tick 0.
-fn put_lines(out: &mut [u8], from: usize, plan: Plan, t: Table) -> usize
-    requires { (plan.count ≤ most_jobs) × (t.count ≤ most_jobs) × (from + length (step_lines t plan) ≤ length out.old) }
-    ensures { Wrote out.old from (step_lines t plan) out.new result }
+fn put_lines(out: &mut [u8], from: usize, plan: &Plan, t: &Table) -> usize
+    requires { (plan.now.count ≤ most_jobs) × (t.now.count ≤ most_jobs) × (from + length (step_lines t.now plan.now) ≤ length out.old) }
+    ensures { Wrote out.old from (step_lines t.now plan.now) out.new result }
 {
-    let n = plan.count;
-    let index = lookup::index_of(t);
-    let mut i = 0;
+    let jobs = &t.jobs[..t.count];
+    let index = lookup::index_of(jobs);
     let mut at = from;
     let mut start = 0;
-    while i < n {
-        let step = plan.steps[i];
-        let away = step.away;
-        let job = job_at(t, index[step.id as usize] as usize);
-        at = put_job_line(out, at, job, away, start);
-        start += model::span_of(job, away) as usize;
-        i += 1;
+    for &step in &plan.steps[..plan.count] {
+        let job = job_at(jobs, index[step.id as usize] as usize);
+        at = put_job_line(out, at, job, step.away, start);
+        start += model::span_of(job, step.away) as usize;
     }
     at
 }
 
 // The first line, a line for each step, the last line.
-fn put_plan(out: &mut [u8], t: Table, draft: Draft) -> usize
-    requires { (draft.plan.count ≤ most_jobs) × (t.count ≤ most_jobs) × (length (draft_text t draft) ≤ length out.old) }
-    ensures { Wrote out.old 0 (draft_text t draft) out.new result }
+fn put_plan(out: &mut [u8], t: &Table, draft: &Draft) -> usize
+    requires { (draft.now.plan.count ≤ most_jobs) × (t.now.count ≤ most_jobs) × (length (draft_text t.now draft.now) ≤ length out.old) }
+    ensures { Wrote out.old 0 (draft_text t.now draft.now) out.new result }
 {
-    let plan = draft.plan;
-    let laid = draft.laid;
+    let Laid { busy, last } = draft.laid;
     let a = lines::put_pair(out, 0, b"frame ", t.deadline as usize, b" jobs ", t.count);
-    let b = put_lines(out, a, plan, t);
-    lines::put_pair(
-        out,
-        b,
-        b"busy ",
-        laid.busy as usize,
-        b" last ",
-        laid.last as usize,
-    )
+    let b = put_lines(out, a, &draft.plan, t);
+    lines::put_pair(out, b, b"busy ", busy as usize, b" last ", last as usize)
 }
 
 // The plan that was found, or NONE.
-fn put_made(out: &mut [u8], t: Table, made: Drafted) -> usize
-    requires made_fits { (made.draft.plan.count ≤ most_jobs) × (t.count ≤ most_jobs) × (length (made_text t made) ≤ length out.old) }
+fn put_made(out: &mut [u8], t: &Table, made: Option<Draft>) -> usize
+    requires counted { (d : Draft) → made ≡ Some d → d.plan.count ≤ most_jobs }
+    requires made_fits { (t.now.count ≤ most_jobs) × (length (made_text t.now made) ≤ length out.old) }
     requires refused_fits { refused_room ≤ length out.old }
-    ensures { Wrote out.old 0 (made_text t made) out.new result }
+    ensures { Wrote out.old 0 (made_text t.now made) out.new result }
 {
-    let draft = made.draft;
-    if made.found {
-        put_plan(out, t, draft)
-    } else {
-        lines::put_refused(out, 0, Refusal::None)
+    match made {
+        Some(draft) => put_plan(out, t, &draft),
+        None => lines::put_refused(out, 0, Refusal::None),
     }
 }
 
-// The text for any table bytes, at the front of the buffer; the rest of it is left. A buffer of 1,024 bytes has room for every text.
-pub fn list_plan(table: &[u8], out: &mut [u8]) -> Listed
+// The text for any table bytes, at the front of the buffer, and its length; the rest of the buffer is left. A buffer of 1,024 bytes has room for
+// every text; in a shorter one nothing is written.
+pub fn list_plan(table: &[u8], out: &mut [u8]) -> Option<usize>
     ensures { Lists table.now out.old result out.new }
 {
     if out.len() < 1024 {
-        return Listed::NoRoom;
+        return None;
     }
-    let read = table::read_table(table);
-    let verdict = read.verdict;
-    let t = read.table;
-    match verdict {
-        TableVerdict::Refused(f) => Listed::Text(lines::put_refused(out, 0, f)),
-        TableVerdict::Whole => Listed::Text(put_made(out, t, free::free_plan(t))),
-    }
+    Some(match table::read_table(table) {
+        Err(f) => lines::put_refused(out, 0, f),
+        Ok(t) => put_made(out, &t, free::free_plan(&t)),
+    })
 }

@@ -3,7 +3,7 @@
 #![tactic(auto)]
 
 ghost use Rattle.std.specs.Prelude.{◌≡◌, ◌≤◌};
-ghost use Rattle.model.specs.Timetable.{span, wait};
+ghost use Rattle.model.specs.Timetable.{is_either, setup_time, return_time, span, wait};
 ghost use Rattle.model.specs.Laying.{chosen, laid_with, most_busy};
 
 // Whether a job may be sent away: a here-only job has no setup and no return time, an either job has both.
@@ -20,32 +20,58 @@ pub struct Job {
     pub sending: Sending,
 }
 
+impl Job {
+    // What stands in an entry that no job has: a job of no time.
+    pub const NONE: Job = Job {
+        id: 0,
+        local: 0,
+        sending: Sending::HereOnly,
+    };
+
+    // Whether the job may be sent away.
+    pub fn may_go(self) -> bool
+        ensures { result ≡ is_either self }
+    {
+        matches!(self.sending, Sending::Either { .. })
+    }
+
+    // S, and 0 for a here-only job.
+    pub fn setup_time(self) -> u16
+        ensures { result ≡ setup_time self }
+    {
+        match self.sending {
+            Sending::HereOnly => 0,
+            Sending::Either { setup, .. } => setup,
+        }
+    }
+
+    // I, and 0 for a here-only job.
+    pub fn return_time(self) -> u16
+        ensures { result ≡ return_time self }
+    {
+        match self.sending {
+            Sending::HereOnly => 0,
+            Sending::Either { back, .. } => back,
+        }
+    }
+}
+
 // How long the job's span on the panel is: C here, S away.
 pub fn span_of(job: Job, away: bool) -> u32
     ensures { (result ≡ span (chosen job away)) × (result ≤ 65535) }
 {
-    let local = job.local;
-    let sending = job.sending;
-    if !away {
-        return local as u32;
-    }
-    match sending {
-        Sending::HereOnly => 0,
-        Sending::Either { setup, back: _ } => setup as u32,
-    }
+    let span = if away { job.setup_time() } else { job.local };
+    u32::from(span)
 }
 
 // From the span's end to the finish: nothing here, I away.
 pub fn wait_of(job: Job, away: bool) -> u32
     ensures { (result ≡ wait (chosen job away)) × (result ≤ 65535) }
 {
-    let sending = job.sending;
-    if !away {
-        return 0;
-    }
-    match sending {
-        Sending::HereOnly => 0,
-        Sending::Either { setup: _, back } => back as u32,
+    if away {
+        u32::from(job.return_time())
+    } else {
+        0
     }
 }
 
@@ -64,11 +90,7 @@ impl Laid {
     {
         let busy = self.busy + span_of(job, away);
         let finish = busy + wait_of(job, away);
-        let last = self.last;
-        if last < finish {
-            Laid { busy, last: finish }
-        } else {
-            Laid { busy, last }
-        }
+        let last = self.last.max(finish);
+        Laid { busy, last }
     }
 }

@@ -1,3 +1,2 @@
-pub mod Loops
-pub mod Inserted
+pub mod Insertion
 pub mod Ordered

@@ -47,53 +47,53 @@ written_as t before xs draft d n after w =
     let steps : steps_of draft.plan ≡ steps_for xs = ap (λ (d : Draft). steps_of d.plan) d ∙ steps_of_plan (steps_for xs) in
     record { says = rw (w.0, steps, d) refl; front = w.1 ∙ rw steps refl }
 
--- An order over a table that was read.
+-- An order over a sound table: what it finds is a plan, and has room in one.
 module _
     (CanMeet : JobTable → Type 0) (IsPlan : JobTable → List Chosen → Type 0) (found : JobTable → Option (List Chosen)) (finds : Finds CanMeet IsPlan found)
-    (x : Result Table Refusal) (sound : SoundRead x) (before : List ℕ)
+    (t : Table) (sound : Sound t) (draft : Draft) (e : Some draft ≡ drafted_of (found (job_table t)))
+  where
+    pub plan_found : (xs : List Chosen) × IsPlan (job_table t) xs × (draft ≡ draft_of xs)
+    plan_found = step (found (job_table t)) refl e
+      where
+        step : (o : Option (List Chosen)) → found (job_table t) ≡ o → Some draft ≡ drafted_of o → (xs : List Chosen) × IsPlan (job_table t) xs × (draft ≡ draft_of xs)
+        step None q k = clash (cc)
+        step (Some xs) q k = (xs, finds.plan (job_table t) sound.good.few xs q, cc)
+
+    pub found_few : draft.plan.count ≤ most_jobs
+    found_few =
+        let p = plan_found in
+        omega (arith, sound.good.few, ap (λ (d : Draft). d.plan.count) p.2, steps_length p.0, finds.as_many (job_table t) p.0 p.1)
+
+-- An order over what was read, where the area has room for every plan.
+module _
+    (CanMeet : JobTable → Type 0) (IsPlan : JobTable → List Chosen → Type 0) (found : JobTable → Option (List Chosen)) (finds : Finds CanMeet IsPlan found)
+    (x : Result Table Refusal) (sound : SoundRead x) (before : List ℕ) (room : longest_plan ≤ length before)
   where
     abbrev Answers : Planned → List ℕ → Type 0
     Answers r after = PlanAnswer CanMeet IsPlan (was_read x) before r after
 
-    module _ (room : longest_plan ≤ length before) where
-      -- the table's refusal is passed on
-      pub answered_refused : (f : Refusal) → x ≡ Err f → Answers (Err f) before
-      answered_refused f h = bad_table room f (ap was_read h) (record { says = refl; left = refl })
+    -- the table's refusal is passed on
+    pub answered_refused : (f : Refusal) → x ≡ Err f → Answers (Err f) before
+    answered_refused f h = bad_table room f (ap was_read h) (record { says = refl; left = refl })
 
-      module _ (t : Table) (is : x ≡ Ok t) where
-        here : Sound t
-        here = rw is at sound
+    module _ (t : Table) (is : x ≡ Ok t) where
+      pub here : Sound t
+      here = rw is at sound
 
-        -- nothing is found, and the area is left
-        pub answered_none : None ≡ drafted_of (found (job_table t)) → Answers (Err R.None) before
-        answered_none e = step (found (job_table t)) refl e
-          where
-            step : (o : Option (List Chosen)) → found (job_table t) ≡ o → None ≡ drafted_of o → Answers (Err R.None) before
-            step None q k = no_plan room (job_table t) (ap was_read is) (finds.none (job_table t) here.good.few q) (record { says = refl; left = refl })
-            step (Some xs) q k = clash (cc)
+      -- nothing is found, and the area is left
+      pub answered_none : None ≡ drafted_of (found (job_table t)) → Answers (Err R.None) before
+      answered_none e = step (found (job_table t)) refl e
+        where
+          step : (o : Option (List Chosen)) → found (job_table t) ≡ o → None ≡ drafted_of o → Answers (Err R.None) before
+          step None q k = no_plan room (job_table t) (ap was_read is) (finds.none (job_table t) here.good.few q) (record { says = refl; left = refl })
+          step (Some xs) q k = clash (cc)
 
-        module _ (draft : Draft) (e : Some draft ≡ drafted_of (found (job_table t))) where
-          -- a plan is found
-          plan_found : (xs : List Chosen) × (found (job_table t) ≡ Some xs) × (draft ≡ draft_of xs)
-          plan_found = step (found (job_table t)) refl e
-            where
-              step : (o : Option (List Chosen)) → found (job_table t) ≡ o → Some draft ≡ drafted_of o → (xs : List Chosen) × (o ≡ Some xs) × (draft ≡ draft_of xs)
-              step None q k = clash (cc)
-              step (Some xs) q k = (xs, refl, cc)
-
-          is_plan : IsPlan (job_table t) plan_found.0
-          is_plan = finds.plan (job_table t) here.good.few plan_found.0 plan_found.1
-
-          -- which has room in a plan,
-          pub found_few : draft.plan.count ≤ most_jobs
-          found_few =
-              omega (arith, here.good.few, ap (λ (d : Draft). d.plan.count) plan_found.2, steps_length plan_found.0, finds.as_many (job_table t) _ is_plan)
-
-          -- and which is written
-          pub answered_planned :
-              (n : ℕ) (after : List ℕ) →
-              (n ≡ length (plan_bytes (steps_of draft.plan)))
-              × (after ≡ plan_bytes (steps_of draft.plan) ++ drop (length (plan_bytes (steps_of draft.plan))) before) →
-              Answers (Ok (record { bytes = n; busy = draft.laid.busy; last = draft.laid.last })) after
-          answered_planned n after w =
-              planned room (job_table t) (ap was_read is) plan_found.0 is_plan (written_as (job_table t) before plan_found.0 draft plan_found.2 n after w)
+      -- a plan is found and written
+      pub answered_planned :
+          (draft : Draft) → Some draft ≡ drafted_of (found (job_table t)) → (n : ℕ) (after : List ℕ) →
+          (n ≡ length (plan_bytes (steps_of draft.plan)))
+          × (after ≡ plan_bytes (steps_of draft.plan) ++ drop (length (plan_bytes (steps_of draft.plan))) before) →
+          Answers (Ok (record { bytes = n; busy = draft.laid.busy; last = draft.laid.last })) after
+      answered_planned draft e n after w =
+          let p = plan_found CanMeet IsPlan found finds t here draft e in
+          planned room (job_table t) (ap was_read is) p.0 p.1 (written_as (job_table t) before p.0 draft p.2 n after w)

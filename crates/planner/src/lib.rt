@@ -8,7 +8,6 @@ ghost use Rattle.std.specs.Prelude.{◌≡◌, List};
 ghost use Rattle.planner.specs.Answers.{was_read, SoundRead, PlanAnswer, LeastRead};
 ghost use Rattle.planner.specs.Answers.{FreeAnswer, GivenAnswer, LeastAnswer};
 
-use choice::EarliestMet;
 use orders::{FreeOrder, GivenOrder, Order};
 use records::refusal::Refusal;
 use table::Table;
@@ -64,10 +63,7 @@ pub fn least_deadline_read(read: Result<Table, Refusal>) -> Result<u16, Refusal>
     ensures { LeastRead (was_read read) result }
 {
     let table = read?;
-    match choice::earliest(choice::prepare(table)) {
-        EarliestMet::MetAt(d) => Ok(d),
-        EarliestMet::NeverMet => Err(Refusal::None),
-    }
+    choice::earliest(&choice::prepare(&table)).ok_or(Refusal::None)
 }
 
 // The least deadline of a table's bytes.

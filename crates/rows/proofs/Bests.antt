@@ -1,10 +1,15 @@
 -- The best of one column more: the better of what was found before it and the column with its setup total and the base.
 -- Assumes nothing.
-use mathlib.Core.Path.{◌≡◌, sym, subst, ◌∙◌}
-use mathlib.Core.Logic.{inl, inr}
+use mathlib.Core.Path.{◌≡◌, refl, sym, subst, ◌∙◌}
+use mathlib.Core.Logic.{◌⊎◌, inl, inr}
+use mathlib.Core.Bool.{Bool, true, false, cond}
 use mathlib.Core.List.{List}
-use Prim.Native.Nat.{ℕ, suc, ◌+◌, ◌*◌, ◌≤◌}
+use Prim.Native.Nat.{ℕ, suc, ◌+◌, ◌*◌, ◌≤◌, ◌<◌}
 use native.Mathlib.Omega.{arith}
+use borrow.Author.Tests.{ltb-true, ltb-false, eqb-true, eqb-false}
+use lib.Dec.{ltb, eqb}
+use Rattle.std.proofs.Common.{Less, Equal, Greater}
+use Rattle.std.specs.Ordering.{ord_min, ordering_then, nat_cmp, is_lt}
 use lib.ListN.{length, get_or}
 use Rattle.model.specs.declared.Job.{Job}
 use Rattle.model.specs.Recurrence.{Cell, empty, cell, shift, row, best_below, Holds}
@@ -12,8 +17,28 @@ use Rattle.model.proofs.Bounds.{row_bounds}
 use Rattle.model.proofs.Held.{shift_held, pick_first, pick_second}
 use Rattle.rows.specs.declared.Lowest.{Lowest}
 use Rattle.rows.specs.Rows.{nothing}
-use Rattle.rows.specs.Columns.{Rows, Better, Single}
+use Rattle.rows.specs.Columns.{Rows, Single}
 use Rattle.records.specs.Limits.{largest_time, most_jobs}
+
+-- of two choices the second where it is lower, at equal totals the one with the smaller mask
+abbrev Better : Lowest → Lowest → Lowest → Type 0
+Better best next r =
+    ((r ≡ next) × ((next.total < best.total) ⊎ ((next.total ≡ best.total) × (next.mask < best.mask))))
+    ⊎ ((r ≡ best) × ((best.total < next.total) ⊎ ((best.total ≡ next.total) × (best.mask ≤ next.mask))))
+
+-- so is the lesser by the order that is derived
+pub better_least : (best next r : Lowest) → r ≡ ord_min (λ a b. ordering_then (nat_cmp a.total b.total) (nat_cmp a.mask b.mask)) best next → Better best next r
+better_least best next r e =
+    step (ltb next.total best.total) (eqb next.total best.total) (ltb next.mask best.mask) (eqb next.mask best.mask) refl refl refl e
+  where
+    step : (a b c d : Bool) → ltb next.total best.total ≡ a → eqb next.total best.total ≡ b → ltb next.mask best.mask ≡ c
+        → r ≡ cond (is_lt (ordering_then (cond a Less (cond b Equal Greater)) (cond c Less (cond d Equal Greater)))) next best → Better best next r
+    step true b c d p q s e = inl (e, inl (ltb-true next.total best.total p))
+    step false true true d p q s e = inl (e, inr (eqb-true next.total best.total q, ltb-true next.mask best.mask s))
+    step false true false true p q s e = inr (e, inr (sym (eqb-true next.total best.total q), ltb-false next.mask best.mask s))
+    step false true false false p q s e = inr (e, inr (sym (eqb-true next.total best.total q), ltb-false next.mask best.mask s))
+    step false false c d p q s e =
+        inr (e, inl (omega (arith, ltb-false next.total best.total p, eqb-false next.total best.total q)))
 
 -- a choice holds a cell
 abbrev pub HeldBy : Cell → Lowest → Type 0

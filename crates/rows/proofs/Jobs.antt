@@ -1,15 +1,15 @@
 -- The jobs in away order are added one after another: the k-th job with the bit 2^k, in front of those before it.
 -- Assumes nothing.
 use mathlib.Core.Path.{◌≡◌, sym, ap, subst, ◌∙◌}
-use mathlib.Core.List.{List, [], ◌∷◌, reverse, reverse-append}
-use Prim.Native.Nat.{ℕ, zero, suc, ◌+◌, ◌*◌, ◌^◌, ◌%◌, ◌≤◌, ◌<◌}
+use mathlib.Core.List.{List, reverse, reverse-append}
+use Prim.Native.Nat.{ℕ, ◌+◌, ◌*◌, ◌^◌, ◌%◌, ◌≤◌, ◌<◌}
 use native.Mathlib.Omega.{arith}
 use native.Mathlib.Nat.{pow-le-pow_right, mod-eq_of_lt}
 use native.Mathlib.Numerals.{add-one}
 use lib.ListN.{length, get_or, take, length-reverse}
 use lib.Seq.{length-take-le, take-suc}
 use Rattle.model.specs.declared.Job.{Job}
-use Rattle.model.specs.Lists.{All}
+use Rattle.model.proofs.Lists.{all_at}
 use Rattle.rows.specs.Rows.{WithinRows}
 use Rattle.rows.specs.Columns.{Fit, Stepped, Rows}
 use Rattle.rows.proofs.Rows.{rows_fit, rows_next}
@@ -17,13 +17,6 @@ use Rattle.records.specs.Limits.{largest_time, most_jobs}
 
 pub taken_length : (jobs : List Job) (k : ℕ) → k ≤ length jobs → length (reverse (take k jobs)) ≡ k
 taken_length jobs k h = length-reverse (take k jobs) ∙ length-take-le k jobs h
-
--- what holds of each of the first n jobs holds of the k-th
-taken_each : (P : Job → Type 0) (jobs : List Job) (n k : ℕ) (none : Job) → All P (take n jobs) → k < n → n ≤ length jobs → P (get_or jobs k none)
-taken_each P [] n k none a h l = absurd (omega arith)
-taken_each P (j ∷ jobs) zero k none a h l = absurd (omega arith)
-taken_each P (j ∷ jobs) (suc n) zero none a h l = a.0
-taken_each P (j ∷ jobs) (suc n) (suc k) none a h l = taken_each P jobs n k none a.1 (omega arith) (omega arith)
 
 -- a shift that stays below 2^32
 shifted : (k : ℕ) → k < most_jobs → (1 * 2 ^ k) % 4294967296 ≡ 2 ^ k
@@ -33,8 +26,8 @@ shifted k h =
     rw e (mod-eq_of_lt (omega arith))
 
 -- the k-th job is added to the rows of those before it; `none` is what an index past the jobs would read
-module _ (D base count k : ℕ) (jobs : List Job) (none : Job) (ts ms : List ℕ) (full : length jobs ≡ most_jobs) (r : WithinRows D base jobs count)
-    (h : k < count) (w : Rows D (reverse (take k jobs)) ts ms) where
+module _ (D base k : ℕ) (jobs : List Job) (none : Job) (ts ms : List ℕ) (r : WithinRows D base jobs) (h : k < length jobs)
+    (w : Rows D (reverse (take k jobs)) ts ms) where
   abbrev job : Job
   job = get_or jobs k none
 
@@ -42,13 +35,13 @@ module _ (D base count k : ℕ) (jobs : List Job) (none : Job) (ts ms : List ℕ
   bit = (1 * 2 ^ k) % 4294967296
 
   few : length (reverse (take k jobs)) < most_jobs
-  few = omega (arith, taken_length jobs k (omega (arith, r.few)), r.few)
+  few = omega (arith, taken_length jobs k (omega arith), r.few)
 
   small : job.local ≤ largest_time
-  small = taken_each (λ (j : Job). j.local ≤ largest_time) jobs count k none r.locals h (omega (arith, r.few))
+  small = all_at (λ (j : Job). j.local ≤ largest_time) jobs none r.locals k h
 
   own : bit ≡ 2 ^ length (reverse (take k jobs))
-  own = shifted k (omega (arith, r.few)) ∙ ap (λ (n : ℕ). 2 ^ n) (sym (taken_length jobs k (omega (arith, r.few))))
+  own = shifted k (omega (arith, r.few)) ∙ ap (λ (n : ℕ). 2 ^ n) (sym (taken_length jobs k (omega arith)))
 
   pub job_fits : Fit (D + 1) job.local ts × Fit (D + 1) bit ms
   job_fits =
@@ -57,5 +50,5 @@ module _ (D base count k : ℕ) (jobs : List Job) (none : Job) (ts ms : List ℕ
 
   pub job_added : (ts' ms' : List ℕ) → Stepped D job bit ts ms ts' ms' → Rows D (reverse (take (k + 1) jobs)) ts' ms'
   job_added ts' ms' s =
-      rw (add-one, take-suc jobs k none (omega (arith, r.few)), reverse-append)
+      rw (add-one, take-suc jobs k none h, reverse-append)
       (rows_next D (reverse (take k jobs)) job few small ts ms w ts' ms' (subst (λ (b : ℕ). Stepped D job b ts ms ts' ms') own s))

@@ -1,41 +1,14 @@
 -- The columns at which a job can be sent away, and what a job more leaves in the columns there and elsewhere.
 -- Assumes nothing.
-use mathlib.Core.Path.{◌≡◌, ap, subst, ◌∙◌}
+use mathlib.Core.Path.{◌≡◌, subst, ◌∙◌}
 use mathlib.Core.Logic.{◌⊎◌, inl, inr}
 use mathlib.Core.List.{List}
 use Prim.Native.Nat.{ℕ, ◌+◌, ◌-◌, ◌≤◌, ◌<◌}
 use native.Mathlib.Omega.{arith}
 use lib.ListN.{get_or}
 use Rattle.model.specs.declared.Job.{Job}
-use Rattle.model.specs.declared.Sending.{Sending}
-use Rattle.model.specs.declared.Sending.TheVariants.{HereOnly, Either}
 use Rattle.model.specs.Timetable.{setup_time, return_time}
 use Rattle.rows.specs.Columns.{Raised, Sent, RoomFor, Stepped, kept_total, lower_total, lower_mask}
-
--- setup and return time as the job's form has them
-setup_of : (o : Job) (s : Sending) → o.sending ≡ s → setup_time o ≡ elim s [ HereOnly ↦ 0 | Either s i ↦ s ]
-setup_of o s e = ap (λ (x : Sending). elim x [ HereOnly ↦ 0 | Either s i ↦ s ]) e
-
-return_of : (o : Job) (s : Sending) → o.sending ≡ s → return_time o ≡ elim s [ HereOnly ↦ 0 | Either s i ↦ i ]
-return_of o s e = ap (λ (x : Sending). elim x [ HereOnly ↦ 0 | Either s i ↦ i ]) e
-
-pub room_here : (D : ℕ) (o : Job) → o.sending ≡ HereOnly → RoomFor D (setup_time o) (return_time o) 0 (D + 1)
-room_here D o e =
-    let p = setup_of o HereOnly e in
-    let q = return_of o HereOnly e in
-    inl (omega arith, omega arith, omega arith)
-
-pub room_either : (D : ℕ) (o : Job) (s i : ℕ) → o.sending ≡ Either s i → s + i ≤ D → RoomFor D (setup_time o) (return_time o) s (D + 1 - i)
-room_either D o s i e h =
-    let p = setup_of o (Either s i) e in
-    let q = return_of o (Either s i) e in
-    inl (omega arith, omega arith, omega arith)
-
-pub room_none : (D : ℕ) (o : Job) (s i : ℕ) → o.sending ≡ Either s i → D < s + i → RoomFor D (setup_time o) (return_time o) 0 0
-room_none D o s i e h =
-    let p = setup_of o (Either s i) e in
-    let q = return_of o (Either s i) e in
-    inr (omega arith, omega arith, omega arith)
 
 pub room_within : (D S I s e : ℕ) → RoomFor D S I s e → (s ≤ e) × (e ≤ D + 1)
 room_within D S I s e (inl r) = (r.2, omega (arith, r.1))

@@ -72,12 +72,6 @@ pub record Rows (D : ℕ) (os : List Job) (ts ms : List ℕ) : Type 0 where
   pub each : (t : ℕ) → t ≤ D → Column D os t (get_or ts t 0) (get_or ms t 0)
   pub locals : total (λ (j : Job). j.local) os ≤ largest_time * length os
 
--- of two choices the second where it is lower, at equal totals the one with the smaller mask
-abbrev pub Better : Lowest → Lowest → Lowest → Type 0
-Better best next r =
-    ((r ≡ next) × ((next.total < best.total) ⊎ ((next.total ≡ best.total) × (next.mask < best.mask))))
-    ⊎ ((r ≡ best) × ((best.total < next.total) ⊎ ((best.total ≡ next.total) × (best.mask ≤ next.mask))))
-
 -- the total is `nothing` at most, and with `nothing` itself goes the mask 0: one choice stands for nothing
 abbrev pub Single : Lowest → Type 0
 Single r = (r.total ≤ nothing) × (r.total ≡ nothing → r.mask ≡ 0)

@@ -1,6 +1,6 @@
 -- What the work rows ask of the jobs that they are given, and the number that stands for nothing.
 -- Assumes nothing.
-use Rattle.std.specs.Prelude.{ℕ, ◌*◌, ◌≤◌, List, take}
+use Rattle.std.specs.Prelude.{ℕ, ◌*◌, ◌≤◌, List, length}
 use Rattle.model.specs.declared.Job.{Job}
 use Rattle.records.specs.Limits.{most_jobs, largest_time}
 use Rattle.model.specs.Lists.{All}
@@ -14,8 +14,8 @@ abbrev pub nothing : ℕ
 nothing = 4000000
 
 -- the rows have 4,001 columns, so the deadline is at most 4,000; so are the local times, of at most 32 jobs: no total reaches `nothing`
-pub record WithinRows (d base : ℕ) (jobs : List Job) (count : ℕ) : Type 0 where
+pub record WithinRows (d base : ℕ) (jobs : List Job) : Type 0 where
   pub deadline : d ≤ largest_time
-  pub few : count ≤ most_jobs
+  pub few : length jobs ≤ most_jobs
   pub based : base ≤ most_jobs * largest_time
-  pub locals : All (λ (j : Job). j.local ≤ largest_time) (take count jobs)
+  pub locals : All (λ (j : Job). j.local ≤ largest_time) jobs

@@ -2,15 +2,14 @@
 // `least` gives the least busy total over all columns, and the mask of the choice that has it.
 #![tactic(auto)]
 
-ghost use Rattle.std.specs.Prelude.{◌≡◌, List, reverse, suc, ◌+◌, ◌*◌, ◌≤◌, ◌<◌, length, take};
+ghost use Rattle.std.specs.Prelude.{◌≡◌, List, reverse, suc, ◌+◌, ◌*◌, ◌≤◌, ◌<◌, length};
 ghost use Rattle.model.specs.Recurrence.{Holds, best_below};
 ghost use Rattle.model.specs.Timetable.{setup_time, return_time};
 ghost use Rattle.records.specs.Limits.{most_jobs, largest_time};
 ghost use Rattle.rows.specs.Rows.{columns, nothing, WithinRows};
-ghost use Rattle.rows.specs.Columns.{Fit, Raised, Sent, RoomFor, Stepped, Rows, lower, Better, Single};
+ghost use Rattle.rows.specs.Columns.{Fit, Raised, Sent, RoomFor, Stepped, Rows, lower, Single};
 
-use model::{Job, Sending};
-use table::Table;
+use model::Job;
 
 // One column for each tick from 0 to the largest time.
 const COLUMNS: usize = 4001;
@@ -18,8 +17,8 @@ const COLUMNS: usize = 4001;
 // A total of so much or more stands for nothing: no choice of the jobs so far has this setup total.
 const NOTHING: u32 = 4_000_000;
 
-// A choice's total, and its mask: bit j says that the j-th job in away order is away.
-#[derive(Clone, Copy)]
+// A choice's total, and its mask: bit j says that the j-th job in away order is away. The lower total is the less, at equal totals the smaller mask.
+#[derive(Clone, Copy, PartialEq, Eq, PartialOrd, Ord)]
 pub struct Lowest {
     pub total: u32,
     pub mask: u32,
@@ -37,22 +36,15 @@ fn room_for(d: usize, job: Job) -> Room
     requires { d ≤ largest_time }
     ensures { RoomFor d (setup_time job) (return_time job) result.setup result.end }
 {
-    let sending = job.sending;
-    match sending {
-        Sending::HereOnly => Room {
-            setup: 0,
-            end: d + 1,
-        },
-        Sending::Either { setup, back } => {
-            if setup as usize + back as usize <= d {
-                Room {
-                    setup: setup as usize,
-                    end: d + 1 - back as usize,
-                }
-            } else {
-                Room { setup: 0, end: 0 }
-            }
+    let setup = job.setup_time() as usize;
+    let back = job.return_time() as usize;
+    if setup + back <= d {
+        Room {
+            setup,
+            end: d + 1 - back,
         }
+    } else {
+        Room { setup: 0, end: 0 }
     }
 }
 
@@ -87,14 +79,11 @@ fn send(
         × Fit end local totals.old × Fit end bit masks.old }
     ensures { Sent setup end setup local bit totals.old masks.old totals.new masks.new }
 {
-    let mut n = end;
-    while setup < n {
-        let t = n - 1;
+    for t in (setup..end).rev() {
         let kept = totals[t] + local;
         let sent = totals[t - setup];
         totals[t] = lower_of(kept, sent, kept, sent);
         masks[t] = lower_of(kept, sent, masks[t], masks[t - setup] + bit);
-        n = t;
     }
 }
 
@@ -109,19 +98,6 @@ fn add_job(totals: &mut [u32; COLUMNS], masks: &mut [u32; COLUMNS], d: usize, jo
     raise(totals, room.end, d + 1, local);
     send(totals, masks, room.setup, room.end, local, bit);
     raise(totals, 0, room.setup, local);
-}
-
-// The better of two choices: the lower total, at equal totals the smaller mask.
-fn better(best: Lowest, next: Lowest) -> Lowest
-    ensures { Better best next result }
-{
-    if next.total < best.total {
-        return next;
-    }
-    if best.total < next.total {
-        return best;
-    }
-    if next.mask < best.mask { next } else { best }
 }
 
 // The best of all columns 0..=d, each with its setup total and `base` added.
@@ -140,23 +116,22 @@ fn best(totals: &[u32; COLUMNS], masks: &[u32; COLUMNS], d: usize, base: u32) ->
             total: totals[t] + t as u32 + base,
             mask: masks[t],
         };
-        found = better(found, next);
+        found = found.min(next);
     }
     found
 }
 
-// The least (busy total, mask) over all setup totals 0..=d of the `count` jobs in away order, `base` being what stays here in any case.
-pub fn least(d: usize, base: u32, jobs: [Job; Table::MOST_JOBS], count: usize) -> Lowest
-    requires { WithinRows d base jobs count }
-    ensures { Single result × Holds nothing result.total result.mask (best_below d (reverse (take count jobs)) base (suc d)) }
+// The least (busy total, mask) over all setup totals 0..=d of the jobs in away order, `base` being what stays here in any case.
+pub fn least(d: usize, base: u32, jobs: &[Job]) -> Lowest
+    requires { WithinRows d base jobs.now }
+    ensures { Single result × Holds nothing result.total result.mask (best_below d (reverse jobs.now) base (suc d)) }
 {
     let mut totals = [0u32; COLUMNS];
     let mut masks = [0u32; COLUMNS];
     // Before the first job only column 0 is reached. Columns above d are never read, so they need no mark.
     raise(&mut totals, 1, d + 1, NOTHING);
-    for k in 0..count {
-        let job = jobs[k];
-        add_job(&mut totals, &mut masks, d, job, 1 << k);
+    for (k, job) in jobs.iter().enumerate() {
+        add_job(&mut totals, &mut masks, d, *job, 1 << k);
     }
     best(&totals, &masks, d, base)
 }

@@ -1,28 +1,28 @@
 -- `choice::flags_of` meets its contract; what its loop keeps stands in Invariants.antt. Assumes nothing.
-use mathlib.Core.Path.{◌∙◌}
-use native.Mathlib.Omega.{arith}
-use lib.Seq.{get_or-take}
-use Rattle.choice.proofs.Held.{held_flags, ready_few, ready_position, ready_whole}
+use Rattle.std.proofs.Common.{ℕ, ◌<◌, ◌∙◌}
+use Rattle.model.specs.Lists.{All}
+use Rattle.model.proofs.Lists.{all_at}
+use Rattle.records.specs.Limits.{most_jobs}
+use Rattle.choice.proofs.Held.{ready_few, ready_positions, held_positions}
 use Rattle.choice.proofs.Loops.{marking_none, marking_more, marking_all}
 use Rattle.choice.proofs.flags_of.Goals as goal
 
-pub loop-k-init : goal.loop-k-init
-loop-k-init c = marking_none _ _ _
+pub as_slice-position-items-requires : goal.as_slice-position-items-requires
+as_slice-position-items-requires c = ready_few _ c.requires
 
-pub offset_bounds-positions-k : goal.offset_bounds-positions-k
-offset_bounds-positions-k c = omega (arith, ready_few _ c.requires)
-
-pub bounds-positions-k : goal.bounds-positions-k
-bounds-positions-k c = omega (arith, ready_few _ c.requires)
+pub loop-position-init : goal.loop-position-init
+loop-position-init c = marking_none _ _
 
 pub bounds-flags-position : goal.bounds-flags-position
-bounds-flags-position c = omega (arith, ready_position _ c.requires c.loop-k.k c.loop-k-test.true, c.loop-k.invariant.size)
+bounds-flags-position c =
+    let known : All (λ (i : ℕ). i < most_jobs) c.as_slice-position-items.result.now =
+    rw c.as_slice-position-items.ensures (ready_positions _ c.requires) in
+    all_at (λ (i : ℕ). i < most_jobs) _ 0 known c.loop-position.position-index c.loop-position-test.true
 
-pub loop-k-preserved : goal.loop-k-preserved
-loop-k-preserved c =
-    marking_more _ _ _ (ready_whole _ c.requires) _ _ _ c.loop-k.invariant _ (get_or-take _ _ _ _ c.loop-k-test.true) c.loop-k-test.true
+pub loop-position-preserved : goal.loop-position-preserved
+loop-position-preserved c = marking_more _ _ _ _ _ c.loop-position.invariant c.loop-position-test.true
 
 pub returns : goal.returns
 returns c js held =
-    marking_all _ _ _ (ready_whole _ c.requires) _ _ _ c.loop-k.invariant c.loop-k-test.false
-    ∙ held_flags _ js held _
+    rw (c.as_slice-position-items.ensures ∙ held_positions _ js held)
+    at (marking_all _ _ _ _ _ c.loop-position.invariant c.loop-position-test.false)

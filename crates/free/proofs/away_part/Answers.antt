@@ -1,42 +1,42 @@
 -- `free::away_part` meets its contract; what its loop keeps stands in Invariants.antt. Assumes nothing.
-use borrow.Author.Rules.{rules}
-use Rattle.free.proofs.Parts.{prepares, away_room, away_more, away_end}
-use Rattle.draft.proofs.Drafts.{listing_begin}
-use Rattle.choice.proofs.Held.{ready_few, ready_position}
-use Rattle.model.specs.FreeOrder.{is_away}
-use native.Mathlib.Omega.{arith}
-use mathlib.Core.List.{[]}
+use Rattle.std.proofs.Common.{rules, ◌≡◌, inl, inr}
+use Rattle.std.proofs.lemmas.List.{length_push}
+use Rattle.choice.proofs.Held.{ready_few, held_positions, held_jobs}
+use Rattle.free.proofs.Parts.{away_start, away_here, away_room, away_more, away_end}
 use Rattle.free.proofs.away_part.Goals as goal
 
-pub loop-k-init : goal.loop-k-init
-loop-k-init c = (search rules, λ js s p. listing_begin is_away [] _ _ c.empty-draft.ensures)
+pub as_slice-requires : goal.as_slice-requires
+as_slice-requires c = ready_few _ c.requires
 
-pub offset_bounds-positions-k : goal.offset_bounds-positions-k
-offset_bounds-positions-k c = omega (arith, ready_few _ c.requires)
+pub away_jobs-requires : goal.away_jobs-requires
+away_jobs-requires c = ready_few _ c.requires
 
-pub bounds-positions-k : goal.bounds-positions-k
-bounds-positions-k c = omega (arith, ready_few _ c.requires)
+pub loop-position-init : goal.loop-position-init
+loop-position-init c js held sound =
+    let at : c.into_iter-position-iterator.result.a.rest.now ≡ c.as_slice.result.now = search rules in
+    let jobs : c.into_iter-position-iterator.result.b.rest.now ≡ c.away_jobs.result.now = search rules in
+    rw (at, jobs, c.as_slice.ensures, c.away_jobs.ensures, held_positions _ js held, held_jobs _ js held)
+    (away_start js sound c.args.flags.now _ c.empty-draft.ensures)
 
 pub bounds-flags-position : goal.bounds-flags-position
-bounds-flags-position c = omega (arith, ready_position _ c.requires c.loop-k.k c.loop-k-test.true)
-
-pub offset_bounds-jobs-k : goal.offset_bounds-jobs-k
-offset_bounds-jobs-k c = omega (arith, ready_few _ c.requires)
-
-pub bounds-jobs-k : goal.bounds-jobs-k
-bounds-jobs-k c = omega (arith, ready_few _ c.requires)
+bounds-flags-position c =
+    let r = c.requires in
+    let s = c.in-Some.ensures.steps in
+    away_here r.js r.sound c.args.flags.now _ _ _ _ (c.loop-position.invariant r.js r.held r.sound) _ _ _ _ s.0 s.1
 
 pub with_if-draft-requires : goal.with_if-draft-requires
 with_if-draft-requires c =
-    let p = prepares _ _ c.requires.held in
-    away_room c.requires.js c.requires.sound _ _ _ _ p _ _ c.loop-k-test.true (c.loop-k.invariant.1 c.requires.js c.requires.sound p)
+    let r = c.requires in
+    let s = c.in-Some.ensures.steps in
+    away_room r.js r.sound c.args.flags.now _ _ _ _ (c.loop-position.invariant r.js r.held r.sound) _ _ _ _ s.0 s.1
 
-pub loop-k-preserved : goal.loop-k-preserved
-loop-k-preserved c = (
-  search rules,
-  λ js s p. away_more js s _ _ _ _ p _ _ _ c.loop-k-test.true (c.loop-k.invariant.1 js s p)
-      c.with_if-draft.ensures,
-)
+pub loop-position-preserved : goal.loop-position-preserved
+loop-position-preserved c js held sound =
+    let s = c.in-Some.ensures.steps in
+    rw length_push
+    (away_more js sound c.args.flags.now _ _ _ _ (c.loop-position.invariant js held sound) _ _ _ _ s.0 s.1 _ c.with_if-draft.ensures)
 
 pub returns : goal.returns
-returns c = λ js s e. let p = prepares _ js e in away_end js s _ _ _ _ p _ _ c.loop-k-test.false (c.loop-k.invariant.1 js s p)
+returns c js sound held =
+    away_end js sound c.args.flags.now _ _ _ _ (c.loop-position.invariant js held sound)
+    (elim c.in-None.ensures.steps [ inl r ↦ inl r.1.0 | inr r ↦ inr r.1.0 ])

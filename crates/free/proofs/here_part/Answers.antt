@@ -1,34 +1,29 @@
 -- `free::here_part` meets its contract; what its loop keeps stands in Invariants.antt. Assumes nothing.
-use borrow.Author.Rules.{rules}
-use Rattle.free.proofs.Parts.{here_room, here_more, here_end}
-use Rattle.draft.proofs.Drafts.{listing_begin}
-use Rattle.model.specs.Timetable.{here}
-use lib.Seq.{length-take-le}
-use lib.ListN.{length, take}
-use native.Mathlib.Omega.{arith}
-use mathlib.Core.Path.{◌≡◌}
+use Rattle.std.proofs.Common.{rules, ◌≡◌, ◌≤◌, length, inl, inr, arith}
+use Rattle.std.proofs.lemmas.List.{length_push}
+use Rattle.free.proofs.Parts.{here_start, here_room, here_more, here_end}
 use Rattle.free.proofs.here_part.Goals as goal
 
-pub loop-i-init : goal.loop-i-init
-loop-i-init c = (search rules, λ before e. listing_begin here before _ _ e)
+pub loop-job-init : goal.loop-job-init
+loop-job-init c before held =
+    let jobs : c.into_iter-job-iterator.result.a.rest.now ≡ c.args.jobs.now = search rules in
+    let flags : c.into_iter-job-iterator.result.b.rest.now ≡ c.args.flags.now = search rules in
+    rw (jobs, flags) (here_start _ _ _ c.requires.1 before held)
 
 pub with_if-draft-requires : goal.with_if-draft-requires
 with_if-draft-requires c =
-    let whole : length (take c.args.count c.args.jobs)
-    ≡ c.args.count = length-take-le _ _ (omega arith) in
-    here_room _ _ _ _ whole c.requires.1 _ _ c.loop-i-test.true c.loop-i.invariant.1
+    let room = c.requires.1 in
+    let s = c.in-Some.ensures.steps in
+    here_room _ _ _ room room.before room.held _ _ _ _ (c.loop-job.invariant room.before room.held) _ _ _ _ s.0 s.1
 
-pub loop-i-preserved : goal.loop-i-preserved
-loop-i-preserved c =
-    let whole : length (take c.args.count c.args.jobs)
-    ≡ c.args.count = length-take-le _ _ (omega arith) in (
-      search rules,
-      here_more _ _ _ _ whole c.requires.1 _ _ _ c.loop-i-test.true
-          c.loop-i.invariant.1 c.with_if-draft.ensures,
-    )
+pub loop-job-preserved : goal.loop-job-preserved
+loop-job-preserved c before held =
+    let s = c.in-Some.ensures.steps in
+    rw length_push
+    (here_more _ _ _ c.requires.1 before held _ _ _ _ (c.loop-job.invariant before held) _ _ _ _ s.0 s.1 _ c.with_if-draft.ensures)
 
 pub returns : goal.returns
-returns c =
-    let whole : length (take c.args.count c.args.jobs)
-    ≡ c.args.count = length-take-le _ _ (omega arith) in
-    λ before room e. here_end _ _ _ _ whole room _ _ c.loop-i-test.false before (c.loop-i.invariant.1 before e)
+returns c before room held =
+    let long : length c.args.jobs.now ≤ length c.args.flags.now = omega arith in
+    here_end _ _ _ room before held long _ _ _ _ (c.loop-job.invariant before held)
+    (elim c.in-None.ensures.steps [ inl r ↦ inl r.1.0 | inr r ↦ inr r.1.0 ])

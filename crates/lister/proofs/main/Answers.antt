@@ -3,7 +3,7 @@ use Rattle.listing.proofs.Texts.{text_counts}
 use Rattle.lister.proofs.main.Goals as goal
 
 pub slice_bounds-out-end : goal.slice_bounds-out-end
-slice_bounds-out-end c = (text_counts c.in-Text.m c.list_plan.ensures c.in-Text.is).0
+slice_bounds-out-end c = (text_counts c.in-Some.m c.list_plan.ensures c.in-Some.is).0
 
 pub slice_bounds-write_all-end : goal.slice_bounds-write_all-end
-slice_bounds-write_all-end c = (text_counts c.in-Text.m c.list_plan.ensures c.in-Text.is).1
+slice_bounds-write_all-end c = (text_counts c.in-Some.m c.list_plan.ensures c.in-Some.is).1

@@ -18,13 +18,13 @@ module _ (c : Start) where
   out = c.args.out.now
 
   abbrev one : List ℕ
-  one = first_line c.args.t.deadline c.args.t.count
+  one = first_line c.args.t.now.deadline c.args.t.now.count
 
   abbrev two : List ℕ
-  two = step_lines c.args.t c.args.draft.plan
+  two = step_lines c.args.t.now c.args.draft.now.plan
 
   abbrev three : List ℕ
-  three = last_line c.args.draft.laid.busy c.args.draft.laid.last
+  three = last_line c.args.draft.now.laid.busy c.args.draft.now.laid.last
 
   room : 0 + length ((one ++ two) ++ three) ≤ length out
   unfolding draft_text

@@ -2,7 +2,7 @@
 use mathlib.Core.Path.{◌≡◌, sym, ◌∙◌}
 use Rattle.std.proofs.Common.{rules}
 use Rattle.std.specs.Prelude.{Err}
-use Rattle.planner.proofs.Finishing.{answered_refused, answered_none, found_few, answered_planned}
+use Rattle.planner.proofs.Finishing.{here, answered_refused, answered_none, found_few, answered_planned}
 use Rattle.planner.proofs.plan_read.Goals as goal
 
 pub returns-in_err-table : goal.returns-in_err-table
@@ -16,7 +16,7 @@ returns-in_default g c =
 
 pub write_plan-bytes-requires : goal.write_plan-bytes-requires
 write_plan-bytes-requires g c = (
-  found_few _ _ _ g.met.O.Order.finds c.args.read c.requires c.args.area.now c.if-area-lt-LONGEST_PLAN.false _ c.in_ok-table.was _
+  found_few _ _ _ g.met.O.Order.finds _ (here _ _ _ g.met.O.Order.finds c.args.read c.requires c.args.area.now c.if-area-lt-LONGEST_PLAN.false _ c.in_ok-table.was) _
       (sym c.in-Some.is ∙ c.plan.ensures),
   search rules,
 )

@@ -3,7 +3,7 @@ use mathlib.Core.Path.{◌≡◌, refl}
 use Prim.Native.Nat.{suc}
 use native.Mathlib.Numerals.{add-one}
 use native.Mathlib.Omega.{arith}
-use Rattle.rows.proofs.Bests.{best_next, single_next}
+use Rattle.rows.proofs.Bests.{better_least, best_next, single_next}
 use Rattle.rows.proofs.best.Goals as goal
 
 pub loop-t-init : goal.loop-t-init
@@ -16,14 +16,15 @@ pub overflow_add-next-in-loop-t : goal.overflow_add-next-in-loop-t
 overflow_add-next-in-loop-t c = omega (arith, c.requires.4 c.loop-t.t (omega arith))
 
 pub loop-t-preserved : goal.loop-t-preserved
-loop-t-preserved c = (
-  refl,
-  omega arith,
-  single_next _ _ _ c.better-found.ensures c.loop-t.invariant.2,
-  (λ os r h. rw add-one (best_next _ os _ _ _ _ _ _ _ r h c.requires.3
-      c.requires.2 (omega arith) refl refl c.better-found.ensures
-      (c.loop-t.invariant.3 os r h))),
-)
+loop-t-preserved c =
+    let better = better_least _ _ _ c.min-found.ensures in (
+      refl,
+      omega arith,
+      single_next _ _ _ better c.loop-t.invariant.2,
+      (λ os r h. rw add-one (best_next _ os _ _ _ _ _ _ _ r h c.requires.3
+          c.requires.2 (omega arith) refl refl better
+          (c.loop-t.invariant.3 os r h))),
+    )
 
 pub returns : goal.returns
 returns c =
