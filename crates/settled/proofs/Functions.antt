@@ -56,8 +56,9 @@ use Rattle.panel.specs.contracts as panel_contracts
 use Rattle.frame_lent.specs.contracts as frame_lent_contracts
 use Rattle.panel.specs.Numbers.{planned_numbers, least_numbers}
 use Rattle.frame_record.specs.declared.Called.{Called}
-use Rattle.settled.specs.Settled.{Settles, SettlesAsked, SettlesPart}
+use Rattle.settled.specs.Settled.{Settles, SettlesAsked, SettlesPart, SettlesOnly}
 use Rattle.std.specs.declared.io.Print
+use Rattle.std.specs.declared.io.Write
 use denote.RattleType.{RattleType}
 use denote.Param.Laws.{Laws}
 use mir.Syntax.{Dict}
@@ -236,11 +237,17 @@ frame_idle κs i r s m n p q = (p ∙ sym q, refl)
 pub sound : Settles frame_record_contracts.Frame.sound.ended frame_record.Frame.sound.Reads.Learnt
 sound κs i r s m n p q = (p ∙ sym q, refl)
 
-pub is_in : Settles frame_record_contracts.Frame.is_in.ended frame_record.Frame.is_in.Reads.Learnt
-is_in κs i r s m n p q = (p ∙ sym q, refl)
+pub is_open : Settles frame_record_contracts.Frame.is_open.ended frame_record.Frame.is_open.Reads.Learnt
+is_open κs i r s m n p q = (p ∙ sym q, refl)
 
-pub refuse : Settles frame_record_contracts.Frame.refuse.ended frame_record.Frame.refuse.Reads.Learnt
-refuse κs i r s m n p q = (p ∙ sym q, refl)
+pub has_begun : Settles frame_record_contracts.Frame.has_begun.ended frame_record.Frame.has_begun.Reads.Learnt
+has_begun κs i r s m n p q = (p ∙ sym q, refl)
+
+pub is_ready : Settles frame_record_contracts.Frame.is_ready.ended frame_record.Frame.is_ready.Reads.Learnt
+is_ready κs i r s m n p q = (p ∙ sym q, refl)
+
+pub answered : Settles frame_record_contracts.Frame.answered.ended frame_record.Frame.answered.Reads.Learnt
+answered κs i r s m n p q = (p ∙ sym q, refl)
 
 pub position_of : Settles frame_record_contracts.Frame.position_of.ended frame_record.Frame.position_of.Reads.Learnt
 position_of κs i r s m n p q = (p ∙ sym q, refl)
@@ -287,6 +294,11 @@ log_called κs i r s m n p q = (p ∙ sym q, refl)
 module _ (T : RattleType) (L : Laws T) (P : Print.Ghosts T.Denot) (d : Dict) where
   pub replay : SettlesPart (replaying_contracts.replay.ended T P d) (λ κs r. r.frame) (replaying.replay.Reads.Learnt T L P d)
   replay κs i r s m n p q = (p ∙ sym q, refl)
+
+-- whatever it is handed to: the frame's record
+module _ (T : RattleType) (L : Laws T) (P : Write.Ghosts T.Denot) (d : Dict) where
+  pub replay_to : SettlesOnly (replaying_contracts.replay_to.ended T P d) (λ κs r. r.frame) (replaying.replay_to.Reads.Learnt T L P d)
+  replay_to κs i r s m n p q = p.0 ∙ sym q.0
 
 -- ---- panel
 

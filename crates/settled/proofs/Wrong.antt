@@ -1,6 +1,6 @@
 -- Answers that contracts rule out, for the public functions whose wrong answers no must-fail edit and no statement of crate `marked` shows.
 -- Each says: for this input the function's own contract, as in Functions.antt, does not allow this answer. Assumes nothing.
-use Rattle.std.specs.Prelude.{Option, None, Some}
+use Rattle.std.specs.Prelude.{Option, None, Some, Ok, Err}
 use mathlib.Core.Path.{◌≡◌, refl, ap}
 use mathlib.Core.Bool.{Bool, true, false}
 use mathlib.Core.List.{List, [], ◌∷◌}
@@ -53,10 +53,10 @@ use Rattle.draft.specs.contracts as draft_contracts
 use Rattle.faults.specs.Allows.{to, to_mut}
 use Rattle.frame_record.specs.declared.Frame.{Frame}
 use Rattle.frame_record.specs.declared.Phase.TheVariants.{Open}
-use Rattle.frame_record.specs.declared.Answer.TheVariants.{Done, Refused}
+use Rattle.frame_record.specs.declared.Answer.TheVariants.{Done}
 use Rattle.frame_record.specs.declared.Called.{Called}
 use Rattle.lookup.specs.Lookup.{first}
-use Rattle.frame_record.specs.Sound.{where_is, sound?, ok_begun}
+use Rattle.frame_record.specs.Sound.{where_is, sound?, open?, begun?, ready?, ok_begun}
 use Rattle.frame_record.specs.Answers.{idle}
 use Rattle.frame_record.proofs as frame_record
 use Rattle.frame_record.specs.contracts as frame_record_contracts
@@ -323,27 +323,40 @@ frame_idle = (
 )
 
 abbrev SoundNot : Frame → Bool → Type 0
-SoundNot f r = RulesOut frame_record_contracts.Frame.sound.ended frame_record.Frame.sound.Reads.Learnt tt (f, tt) r
+SoundNot f r = RulesOut frame_record_contracts.Frame.sound.ended frame_record.Frame.sound.Reads.Learnt ([], tt) (to f, tt) r
 
 pub sound : SoundNot (opened 0) true × SoundNot idle false
 unfolding sound? ok_begun
 sound = ((λ m e. clash (cc)), (λ m e. clash (cc)))
 
--- an unsound record in a phase that is allowed, a sound one in none
-abbrev InNot : Frame → (before during after r : Bool) → Type 0
-InNot f before during after r =
-    RulesOut frame_record_contracts.Frame.is_in.ended frame_record.Frame.is_in.Reads.Learnt tt (f, (before, (during, (after, tt)))) r
+-- an unsound record in a phase that is allowed, a sound one in one that is not, or not in one that is
+abbrev OpenNot : Frame → Bool → Type 0
+OpenNot f r = RulesOut frame_record_contracts.Frame.is_open.ended frame_record.Frame.is_open.Reads.Learnt ([], tt) (to f, tt) r
 
-pub is_in : InNot (opened 0) false true false true × InNot idle false true true true
-unfolding sound? ok_begun
-is_in = ((λ m e. clash (cc)), (λ m e. clash (cc)))
+pub is_open : OpenNot (opened 0) true × OpenNot idle true
+unfolding sound? open? ok_begun
+is_open = ((λ m e. clash (cc)), (λ m e. clash (cc)))
+
+abbrev BegunNot : Frame → Bool → Type 0
+BegunNot f r = RulesOut frame_record_contracts.Frame.has_begun.ended frame_record.Frame.has_begun.Reads.Learnt ([], tt) (to f, tt) r
+
+pub has_begun : BegunNot (opened 0) true × BegunNot idle true
+unfolding sound? begun? ok_begun
+has_begun = ((λ m e. clash (cc)), (λ m e. clash (cc)))
+
+abbrev ReadyNot : Frame → Bool → Type 0
+ReadyNot f r = RulesOut frame_record_contracts.Frame.is_ready.ended frame_record.Frame.is_ready.Reads.Learnt ([], tt) (to f, tt) r
+
+pub is_ready : ReadyNot (opened 0) true × ReadyNot idle false
+unfolding sound? ready? ok_begun
+is_ready = ((λ m e. clash (cc)), (λ m e. clash (cc)))
 
 -- a refusal that is said as done, and one that alters the record
-abbrev RefuseNot : Called → Type 0
-RefuseNot s = RulesOut frame_record_contracts.Frame.refuse.ended frame_record.Frame.refuse.Reads.Learnt tt (idle, (Phase, tt)) s
+abbrev AnsweredNot : Called → Type 0
+AnsweredNot s = RulesOut frame_record_contracts.Frame.answered.ended frame_record.Frame.answered.Reads.Learnt tt (idle, (Err Phase, tt)) s
 
-pub refuse : RefuseNot (record { answer = Done; frame = idle }) × RefuseNot (record { answer = Refused Phase; frame = opened 0 })
-refuse = (
+pub answered : AnsweredNot (record { answer = Ok Done; frame = idle }) × AnsweredNot (record { answer = Err Phase; frame = opened 0 })
+answered = (
   (λ m e. clash (cc (ap (λ (s : Called). s.answer) e))),
   (λ m e. clash (cc (ap (λ (s : Called). s.frame.phase) e))),
 )
@@ -353,7 +366,7 @@ abbrev single : Frame
 single = record { phase = Open; number = 0; clock = 0; deadline = 1; count = 1; next = 0; order = idle.order; entries = idle.entries }
 
 abbrev PositionNot : ℕ → Option ℕ → Type 0
-PositionNot id r = RulesOut frame_record_contracts.Frame.position_of.ended frame_record.Frame.position_of.Reads.Learnt tt (single, (id, tt)) r
+PositionNot id r = RulesOut frame_record_contracts.Frame.position_of.ended frame_record.Frame.position_of.Reads.Learnt ([], tt) (to single, (id, tt)) r
 
 pub position_of : PositionNot 0 None × PositionNot 1 (Some 0)
 unfolding where_is first
