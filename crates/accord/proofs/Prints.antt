@@ -5,7 +5,7 @@ use native.Mathlib.Omega.{arith}
 use mathlib.Core.Path.{◌≡◌, refl, sym, ap, subst, ◌∙◌}
 use mathlib.Core.Bool.{Bool, true, false}
 use mathlib.Core.List.{List, [], ◌∷◌, ◌++◌}
-use Rattle.std.specs.Prelude.{Option, None, Some}
+use Rattle.std.specs.Prelude.{Option, None, Some, Err, Ok}
 use lib.ListN.{length, drop}
 use lib.Dec.{ltb}
 use borrow.Author.Tests.{ltb-true, ltb-false}
@@ -20,8 +20,7 @@ use Rattle.records.specs.Refusals.{Outcome, accepted, refused}
 use Rattle.table.specs.Tables.{JobTable, read_table}
 use Rattle.table.proofs.Accepted.{accepted_good}
 use Rattle.plan.specs.Plans.{plan_bytes, steps_for}
-use Rattle.planner.specs.declared.Planned.{Planned}
-use Rattle.planner.specs.declared.Planned.TheVariants.{PlanWritten, NotPlanned}
+use Rattle.planner.specs.Answers.{Planned}
 use Rattle.planner.proofs.Settled.{best_meets, one_best}
 use Rattle.planner.specs.Answers.{no_room, bad_table, no_plan, planned, BestPlan, FreeAnswer}
 use Rattle.faults.specs.Faults.{Byte}
@@ -92,7 +91,7 @@ free_answers s before = fits (ltb (length before) longest_plan) refl
     answers : longest_plan ≤ length before → (t : JobTable) → read_table s ≡ accepted t → (o : Option (List Chosen)) → free most_jobs t.deadline t.jobs ≡ o →
         (r : Planned) × (after : List ℕ) × FreeAnswer s before r after
     answers room t e None q = (
-      NotPlanned R.None,
+      Err R.None,
       before,
       no_plan room t e ((free_none_iff most_jobs t.jobs (few s t e) t.deadline).0 q) (record { says = refl; left = refl }),
     )
@@ -105,8 +104,8 @@ free_answers s before = fits (ltb (length before) longest_plan) refl
 
     reads : longest_plan ≤ length before → (o : Outcome JobTable) → read_table s ≡ o → (r : Planned) × (after : List ℕ) × FreeAnswer s before r after
     reads room (accepted t) e = answers room t e (free most_jobs t.deadline t.jobs) refl
-    reads room (refused f) e = (NotPlanned f, before, bad_table room f e (record { says = refl; left = refl }))
+    reads room (refused f) e = (Err f, before, bad_table room f e (record { says = refl; left = refl }))
 
     fits : (b : Bool) → ltb (length before) longest_plan ≡ b → (r : Planned) × (after : List ℕ) × FreeAnswer s before r after
-    fits true e = (NotPlanned R.Room, before, no_room (ltb-true _ _ e) (record { says = refl; left = refl }))
+    fits true e = (Err R.Room, before, no_room (ltb-true _ _ e) (record { says = refl; left = refl }))
     fits false e = reads (ltb-false _ _ e) (read_table s) refl

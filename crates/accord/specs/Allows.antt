@@ -5,8 +5,7 @@ use Rattle.choice.specs.declared.Prepared.{Prepared}
 use Rattle.choice.specs.declared.BestMask.{BestMask}
 use Rattle.choice.specs.declared.EarliestMet.{EarliestMet}
 use Rattle.choice.proofs as choice
-use Rattle.planner.specs.declared.Planned.{Planned}
-use Rattle.planner.specs.declared.Least.{Least}
+use Rattle.planner.specs.Answers.{Planned, Least}
 use Rattle.planner.proofs as planner
 use Rattle.listing.specs.declared.Listed.{Listed}
 use Rattle.listing.proofs as listing

@@ -7,8 +7,7 @@ use Rattle.records.specs.declared.refusal.Refusal.TheVariants.{None}
 use Rattle.records.specs.Limits.{longest_plan}
 use Rattle.table.specs.Tables.{verdict_says}
 use Rattle.table.specs.declared.TableRead.{TableRead}
-use Rattle.planner.specs.declared.Planned.{Planned}
-use Rattle.planner.specs.declared.Least.{Least}
+use Rattle.planner.specs.Answers.{Planned, Least}
 use Rattle.planner.specs.Answers.{planned_says, least_says, Refuses}
 use Rattle.frame_record.specs.declared.Event.{Event}
 use Rattle.frame_record.specs.declared.Event.TheVariants.{SpanEnd, Return, Read}
