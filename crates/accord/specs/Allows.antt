@@ -1,9 +1,7 @@
 -- What the own contracts of the planners, of what they ask, and of the lister allow, as Rattle reads them of src/ (`Reads`' `Learnt`):
 -- for these bytes and this area, this answer and this area afterwards. Assumes nothing.
-use Rattle.std.specs.Prelude.{ℕ, List, []}
+use Rattle.std.specs.Prelude.{ℕ, List, [], Option}
 use Rattle.choice.specs.declared.Prepared.{Prepared}
-use Rattle.choice.specs.declared.BestMask.{BestMask}
-use Rattle.choice.specs.declared.EarliestMet.{EarliestMet}
 use Rattle.choice.proofs as choice
 use Rattle.planner.specs.Answers.{Planned, Least}
 use Rattle.planner.proofs as planner
@@ -24,8 +22,8 @@ abbrev pub ListAllows : List ℕ → List ℕ → Listed → List ℕ → Type 0
 ListAllows s before r after = listing.list_plan.Reads.Learnt ([], ([], tt)) (to s, (to_mut before, tt)) r (to s, (to_mut after, tt))
 
 -- what the planners ask of the table's jobs once they are prepared
-abbrev pub BestAllows : ℕ → Prepared → BestMask → Type 0
-BestAllows d p r = choice.best_choice.Reads.Learnt tt (d, (p, tt)) r (d, (p, tt))
+abbrev pub BestAllows : ℕ → Prepared → Option ℕ → Type 0
+BestAllows d p r = choice.best_choice.Reads.Learnt ([], tt) (d, (to p, tt)) r (d, (to p, tt))
 
-abbrev pub EarliestAllows : Prepared → EarliestMet → Type 0
-EarliestAllows p r = choice.earliest.Reads.Learnt tt (p, tt) r (p, tt)
+abbrev pub EarliestAllows : Prepared → Option ℕ → Type 0
+EarliestAllows p r = choice.earliest.Reads.Learnt ([], tt) (to p, tt) r (to p, tt)
