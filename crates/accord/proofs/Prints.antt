@@ -21,7 +21,7 @@ use Rattle.table.specs.Tables.{JobTable, read_table}
 use Rattle.table.proofs.Accepted.{accepted_good}
 use Rattle.plan.specs.Plans.{plan_bytes, steps_for}
 use Rattle.planner.specs.Answers.{Planned}
-use Rattle.planner.proofs.Settled.{best_meets, one_best}
+use Rattle.planner.specs.Orders.{best_meets, one_best}
 use Rattle.planner.specs.Answers.{no_room, bad_table, no_plan, planned, BestPlan, FreeAnswer}
 use Rattle.faults.specs.Faults.{Byte}
 use Rattle.faults.proofs.Tables.{table_is}

@@ -17,7 +17,7 @@ use Rattle.model.proofs as model
 use Rattle.model.specs.contracts as model_contracts
 use Rattle.table.specs.declared.Table.{Table}
 use Rattle.records.specs.declared.kind.Form.{Form}
-use Rattle.records.specs.declared.kind.Meaning.TheVariants.{Row, Unknown}
+use Rattle.records.specs.declared.kind.Meaning.TheVariants.{Row}
 use Rattle.records.specs.declared.kind.RowKind.TheVariants.{HereRow}
 use Rattle.records.specs.declared.refusal.Place.{Place}
 use Rattle.records.specs.declared.refusal.Refusal.TheVariants.{Twice, Late, Phase}
@@ -118,14 +118,18 @@ table_empty = (
 )
 
 -- a here-only record's body one byte short; its kind unknown
-abbrev FormNot : Form → Type 0
+abbrev FormNot : Option Form → Type 0
 FormNot f = RulesOut records_contracts.kind.form_of.ended records.kind.form_of.Reads.Learnt tt (0x11, tt) f
 
-pub form_of_lem : FormNot (form (Row HereRow) 2) × FormNot (form Unknown 3)
+abbrev body_of : Option Form → ℕ
+body_of None = 0
+body_of (Some f) = f.body
+
+pub form_of_lem : FormNot (form (Row HereRow) 2) × FormNot None
 unfolding form_of
 form_of_lem = (
-  (λ m e. let z : ◌≡◌ {A = ℕ} 2 3 = ap (λ (f : Form). f.body) e in omega arith),
-  (λ m e. clash (cc (ap (λ (f : Form). f.meaning) e))),
+  (λ m e. let z : ◌≡◌ {A = ℕ} 2 3 = ap body_of e in omega arith),
+  (λ m e. clash (cc)),
 )
 
 -- the second byte of a file, the fourth; the next record one byte short, or where this one is
@@ -149,14 +153,14 @@ place_past = (
 
 -- the number of another refusal; a place left out
 abbrev said : ℕ → Said
-said n = record { number = n; placed = false; place = 0 }
+said n = record { number = n; place = None }
 
 pub numbers_of :
     RulesOut records_contracts.refusal.numbers_of.ended records.refusal.numbers_of.Reads.Learnt tt (Late, tt) (said 12)
     × RulesOut records_contracts.refusal.numbers_of.ended records.refusal.numbers_of.Reads.Learnt tt (Twice (past start 6), tt) (said 5)
 numbers_of = (
   (λ m e. let z : ◌≡◌ {A = ℕ} 12 11 = ap (λ (s : Said). s.number) e in omega arith),
-  (λ m e. let z : ◌≡◌ {A = ℕ} 0 7 = ap (λ (s : Said). s.place) e in omega arith),
+  (λ m e. clash (cc (ap (λ (s : Said). s.place) e))),
 )
 
 -- ---- bytes, lines
@@ -244,13 +248,13 @@ plan_empty = (
 )
 
 -- the step not added; another added too
-abbrev WithNot : Plan → Type 0
-WithNot p = RulesOut plan_contracts.Plan.with_step.ended plan.Plan.with_step.Reads.Learnt tt (plan_of [], (step 1 true, tt)) p
+abbrev PushNot : Plan → Type 0
+PushNot p = ¬ (plan.Plan.push.Reads.Learnt ([], tt) (to_mut (plan_of []), (step 1 true, tt)) tt (to_mut p, (step 1 true, tt)))
 
-pub with_step_lem : WithNot (plan_of []) × WithNot (with_step one (step 2 true))
-with_step_lem = (
-  (λ m e. let z : ◌≡◌ {A = ℕ} 0 1 = ap (λ (p : Plan). p.count) e in omega arith),
-  (λ m e. let z : ◌≡◌ {A = ℕ} 2 1 = ap (λ (p : Plan). p.count) e in omega arith),
+pub plan_push : PushNot (plan_of []) × PushNot (with_step one (step 2 true))
+plan_push = (
+  (λ e. let z : ◌≡◌ {A = ℕ} 0 1 = ap (λ (p : Plan). p.count) e in omega arith),
+  (λ e. let z : ◌≡◌ {A = ℕ} 2 1 = ap (λ (p : Plan). p.count) e in omega arith),
 )
 
 -- a draft that has a job already, or numbers of none of its steps
@@ -271,22 +275,12 @@ draft_empty = (
 
 -- the job not added; its numbers without its step
 abbrev JobNot : Draft → Type 0
-JobNot d = RulesOut draft_contracts.Draft.with_job.ended draft.Draft.with_job.Reads.Learnt tt (draft_of [], (job, (true, tt))) d
+JobNot d = ¬ (draft.Draft.push.Reads.Learnt ([], tt) (to_mut (draft_of []), (job, (true, tt))) tt (to_mut d, (job, (true, tt))))
 
-pub with_job : JobNot (draft_of []) × JobNot laid_alone
-with_job = (
-  (λ m e. let z : ◌≡◌ {A = ℕ} 0 1 = ap (λ (d : Draft). d.plan.count) e in omega arith),
-  (λ m e. let z : ◌≡◌ {A = ℕ} 0 1 = ap (λ (d : Draft). d.plan.count) e in omega arith),
-)
-
--- a job left out, or listed where it should not be
-abbrev IfNot : Bool → Draft → Type 0
-IfNot listed d = RulesOut draft_contracts.Draft.with_if.ended draft.Draft.with_if.Reads.Learnt tt (draft_of [], (listed, (job, (true, tt)))) d
-
-pub with_if : IfNot true (draft_of []) × IfNot false with_one
-with_if = (
-  (λ m e. let z : ◌≡◌ {A = ℕ} 0 1 = ap (λ (d : Draft). d.plan.count) e in omega arith),
-  (λ m e. let z : ◌≡◌ {A = ℕ} 1 0 = ap (λ (d : Draft). d.plan.count) e in omega arith),
+pub draft_push : JobNot (draft_of []) × JobNot laid_alone
+draft_push = (
+  (λ e. let z : ◌≡◌ {A = ℕ} 0 1 = ap (λ (d : Draft). d.plan.count) e in omega arith),
+  (λ e. let z : ◌≡◌ {A = ℕ} 0 1 = ap (λ (d : Draft). d.plan.count) e in omega arith),
 )
 
 -- ---- choice
