@@ -15,14 +15,12 @@ use Rattle.model.proofs.Free.{answer_choice}
 use Rattle.model.proofs.LeastDeadline.{met_mono, least_unique}
 use Rattle.records.specs.Limits.{most_jobs, largest_time}
 use Rattle.choice.specs.declared.Prepared.{Prepared}
-use Rattle.choice.specs.declared.BestMask.{BestMask}
-use Rattle.choice.specs.declared.EarliestMet.{EarliestMet}
-use Rattle.choice.specs.declared.EarliestMet.TheVariants.{MetAt, NeverMet}
+use Rattle.std.specs.Prelude.{Option, None, Some}
 use Rattle.choice.specs.Choices.{SoundJobs, prepared_of, best_mask_of, flags_of, best_mask_says, IsEarliest, earliest_says}
 use Rattle.accord.specs.Allows.{BestAllows, EarliestAllows}
 
 module _ (js : List Job) (sound : SoundJobs js) (p : Prepared) (held : p ≡ prepared_of js) where
-  module _ (d : ℕ) (r : BestMask) (allows : BestAllows d p r) where
+  module _ (d : ℕ) (r : Option ℕ) (allows : BestAllows d p r) where
     -- what the answer says, by what the recurrence finds
     said : best_mask_says r ≡ best_mask_says (best_mask_of (answer d js))
     said = ap best_mask_says (allows js held)
@@ -46,20 +44,20 @@ module _ (js : List Job) (sound : SoundJobs js) (p : Prepared) (held : p ≡ pre
             let same : k ≡ m = cc in
             subst (λ (i : ℕ). Best d js (choose js (flags_of js i))) same (answer_choice most_jobs js sound.few d a k e).0
 
-  module _ (r : EarliestMet) (allows : EarliestAllows p r) where
+  module _ (r : Option ℕ) (allows : EarliestAllows p r) where
     pub earliest_none : (earliest_says r ≡ 7 ∷ []) ↔ ¬ (Met largest_time js)
     earliest_none = step r (allows js held)
       where
-        step : (q : EarliestMet) → IsEarliest largest_time js q → (earliest_says q ≡ 7 ∷ []) ↔ ¬ (Met largest_time js)
-        step (MetAt d) l = ((λ e. clash (cc)), (λ n. absurd (n (met_mono js d largest_time l.high l.met))))
-        step NeverMet n = ((λ e. n), (λ k. refl))
+        step : (q : Option ℕ) → IsEarliest largest_time js q → (earliest_says q ≡ 7 ∷ []) ↔ ¬ (Met largest_time js)
+        step (Some d) l = ((λ e. clash (cc)), (λ n. absurd (n (met_mono js d largest_time l.high l.met))))
+        step None n = ((λ e. n), (λ k. refl))
 
     pub earliest_is : (d : ℕ) → (earliest_says r ≡ 0 ∷ d ∷ []) ↔ LeastDeadline largest_time js d
     earliest_is d = step r (allows js held)
       where
-        step : (q : EarliestMet) → IsEarliest largest_time js q → (earliest_says q ≡ 0 ∷ d ∷ []) ↔ LeastDeadline largest_time js d
-        step (MetAt c) l = (
+        step : (q : Option ℕ) → IsEarliest largest_time js q → (earliest_says q ≡ 0 ∷ d ∷ []) ↔ LeastDeadline largest_time js d
+        step (Some c) l = (
           (λ e. let same : c ≡ d = cc in subst (LeastDeadline largest_time js) same l),
           (λ k. ap (λ (n : ℕ). 0 ∷ n ∷ []) (least_unique js largest_time c d l k)),
         )
-        step NeverMet n = ((λ e. clash (cc)), (λ k. absurd (n (met_mono js d largest_time k.high k.met))))
+        step None n = ((λ e. clash (cc)), (λ k. absurd (n (met_mono js d largest_time k.high k.met))))

@@ -2,7 +2,6 @@
 #![tactic(auto)]
 
 ghost use Rattle.std.specs.Prelude.{◌≡◌, List, ◌++◌, ◌≤◌, length};
-ghost use Rattle.model.specs.declared.Job.{Job};
 ghost use Rattle.model.specs.Lists.{filter};
 ghost use Rattle.model.specs.Timetable.{Chosen, here};
 ghost use Rattle.model.specs.FreeOrder.{is_away};
@@ -10,7 +9,7 @@ ghost use Rattle.model.specs.Positions.{choose, free};
 ghost use Rattle.records.specs.Limits.{most_jobs};
 ghost use Rattle.draft.specs.Drafts.{draft_of, drafted_of};
 ghost use Rattle.table.specs.Tables.{job_table, Sound};
-ghost use Rattle.choice.specs.Choices.{SoundJobs, prepared_of, Ready};
+ghost use Rattle.choice.specs.Choices.{SoundJobs, Ready, OfItsJobs};
 ghost use Rattle.free.specs.Parts.{in_away_order, HereRoom};
 
 use choice::Prepared;
@@ -21,7 +20,7 @@ use table::Table;
 // The jobs that are flagged away, in away order.
 fn away_part(p: &Prepared, flags: &[bool; Table::MOST_JOBS]) -> Draft
     requires { Ready p.now }
-    ensures { (js : List Job) → SoundJobs js → p.now ≡ prepared_of js → result ≡ draft_of (filter is_away (in_away_order js flags.now)) }
+    ensures { OfItsJobs p.now (λ js. SoundJobs js → result ≡ draft_of (filter is_away (in_away_order js flags.now))) }
 {
     let mut draft = Draft::empty();
     for (position, job) in p.order.as_slice().iter().zip(p.away_jobs()) {

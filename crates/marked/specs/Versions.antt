@@ -9,8 +9,7 @@ use Rattle.records.specs.Limits.{longest_plan}
 use Rattle.records.specs.Refusals.{refusal_says, accepted}
 use Rattle.table.specs.Tables.{JobTable, read_table}
 use Rattle.plan.specs.Plans.{plan_bytes, steps_for}
-use Rattle.planner.specs.declared.Planned.{Planned}
-use Rattle.planner.specs.declared.Least.{Least}
+use Rattle.planner.specs.Answers.{Planned, Least}
 use Rattle.planner.specs.Answers.{planned_says, least_says}
 use Rattle.judge.specs.Check.{Checked}
 use Rattle.judge.specs.Check.{checked_says}

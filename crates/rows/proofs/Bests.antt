@@ -21,7 +21,7 @@ use Rattle.rows.specs.Columns.{Rows, Single}
 use Rattle.records.specs.Limits.{largest_time, most_jobs}
 
 -- of two choices the second where it is lower, at equal totals the one with the smaller mask
-abbrev Better : Lowest → Lowest → Lowest → Type 0
+abbrev pub Better : Lowest → Lowest → Lowest → Type 0
 Better best next r =
     ((r ≡ next) × ((next.total < best.total) ⊎ ((next.total ≡ best.total) × (next.mask < best.mask))))
     ⊎ ((r ≡ best) × ((best.total < next.total) ⊎ ((best.total ≡ next.total) × (best.mask ≤ next.mask))))

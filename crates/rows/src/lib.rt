@@ -116,7 +116,10 @@ fn best(totals: &[u32; COLUMNS], masks: &[u32; COLUMNS], d: usize, base: u32) ->
             total: totals[t] + t as u32 + base,
             mask: masks[t],
         };
-        found = found.min(next);
+        // Few columns pass this test, and it costs less than the order of two choices.
+        if next.total <= found.total {
+            found = found.min(next);
+        }
     }
     found
 }

@@ -4,7 +4,6 @@
 use mathlib.Core.Path.{refl, sym, ap, ◌∙◌}
 use mathlib.Core.List.{reverse}
 use Prim.Native.Nat.{suc}
-use lib.ListN.{take}
 use Rattle.model.specs.Recurrence.{best_below}
 use Rattle.model.proofs as model
 use Rattle.model.specs.contracts as model_contracts
@@ -65,6 +64,15 @@ use mir.Syntax.{Dict}
 use Rattle.frame_promises.specs.Lent.{BeginIn, CallIn}
 
 -- ---- model
+
+pub may_go : Settles model_contracts.Job.may_go.ended model.Job.may_go.Reads.Learnt
+may_go κs i r s m n p q = (p ∙ sym q, refl)
+
+pub setup_time : Settles model_contracts.Job.setup_time.ended model.Job.setup_time.Reads.Learnt
+setup_time κs i r s m n p q = (p ∙ sym q, refl)
+
+pub return_time : Settles model_contracts.Job.return_time.ended model.Job.return_time.Reads.Learnt
+return_time κs i r s m n p q = (p ∙ sym q, refl)
 
 pub span_of : Settles model_contracts.span_of.ended model.span_of.Reads.Learnt
 span_of κs i r s m n p q = (p.0 ∙ sym q.0, refl)
@@ -166,8 +174,15 @@ write_plan κs i r s m n p q = (p.0 ∙ sym q.0, λ k. ((p.1 ∙ sym q.1) k, m.1
 pub away_order : Settles order_contracts.away_order.ended order.away_order.Reads.Learnt
 away_order κs i r s m n p q = (p ∙ sym q, refl)
 
+-- of a lent part what it holds is settled
+pub as_slice : SettlesPart order_contracts.AwayOrder.as_slice.ended (λ κs r. r.now) order.AwayOrder.as_slice.Reads.Learnt
+as_slice κs i r s m n p q = (p ∙ sym q, refl)
+
 pub least : Settles rows_contracts.least.ended rows.least.Reads.Learnt
-least κs i r s m n p q = (rows.Bests.least_settled (best_below i.0 (reverse (take i.1.1.1.0 i.1.1.0)) i.1.0 (suc i.0)) r s p q, refl)
+least κs i r s m n p q = (rows.Bests.least_settled (best_below i.0 (reverse i.1.1.0.now) i.1.0 (suc i.0)) r s p q, refl)
+
+pub away_jobs : SettlesPart choice_contracts.Prepared.away_jobs.ended (λ κs r. r.now) choice.Prepared.away_jobs.Reads.Learnt
+away_jobs κs i r s m n p q = (p ∙ sym q, refl)
 
 pub prepare : Settles choice_contracts.prepare.ended choice.prepare.Reads.Learnt
 prepare κs i r s m n p q = (p ∙ sym q, refl)

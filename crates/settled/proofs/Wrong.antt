@@ -293,7 +293,7 @@ with_if = (
 
 -- of two either jobs with equal returns the first is first in away order, and mask 1 sends it: no flag at all; the flag of the other job
 abbrev FlagsNot : List Bool → Type 0
-FlagsNot fs = RulesOut choice_contracts.flags_of.ended choice.flags_of.Reads.Learnt tt (prepared_of (job ∷ job ∷ []), (1, tt)) fs
+FlagsNot fs = RulesOut choice_contracts.flags_of.ended choice.flags_of.Reads.Learnt ([], tt) (to (prepared_of (job ∷ job ∷ [])), (1, tt)) fs
 
 pub flags_of : FlagsNot (replicate most_jobs false) × FlagsNot (set (replicate most_jobs false) 1 true)
 flags_of = (

@@ -37,6 +37,6 @@ loop-position-preserved c js held sound =
     (away_more js sound c.args.flags.now _ _ _ _ (c.loop-position.invariant js held sound) _ _ _ _ s.0 s.1 _ c.with_if-draft.ensures)
 
 pub returns : goal.returns
-returns c js sound held =
+returns c js held sound =
     away_end js sound c.args.flags.now _ _ _ _ (c.loop-position.invariant js held sound)
     (elim c.in-None.ensures.steps [ inl r ↦ inl r.1.0 | inr r ↦ inr r.1.0 ])

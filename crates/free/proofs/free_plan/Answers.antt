@@ -34,7 +34,7 @@ here_part-requires c =
     let flags = c.flags_of-flags.ensures (jobs t) c.prepare-p.ensures in (
       search rules,
       rw flags (found_room (jobs t) s t.deadline c.in_ok-mask.mask m _
-          (rw flags at (c.away_part-front.ensures (jobs t) s c.prepare-p.ensures))),
+          (rw flags at (c.away_part-front.ensures (jobs t) c.prepare-p.ensures s))),
     )
 
 pub returns : goal.returns
@@ -43,7 +43,7 @@ returns c =
     let s = sound t c.requires in
     let m = sym c.in_ok-mask.was ∙ c.best_choice.ensures (jobs t) c.prepare-p.ensures in
     let flags = c.flags_of-flags.ensures (jobs t) c.prepare-p.ensures in
-    let sent = rw flags at (c.away_part-front.ensures (jobs t) s c.prepare-p.ensures) in
+    let sent = rw flags at (c.away_part-front.ensures (jobs t) c.prepare-p.ensures s) in
     found_plan (jobs t) s t.deadline c.in_ok-mask.mask m _
     ((rw flags at c.here_part.ensures)
     (filter is_away (in_away_order (jobs t) (flags_of (jobs t) c.in_ok-mask.mask)))

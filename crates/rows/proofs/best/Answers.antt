@@ -1,10 +1,13 @@
 -- `rows::best` meets its contract; what its loop keeps stands in Invariants.antt. Assumes nothing.
-use mathlib.Core.Path.{◌≡◌, refl}
-use Prim.Native.Nat.{suc}
+use mathlib.Core.Path.{◌≡◌, refl, ◌∙◌}
+use Prim.Native.Nat.{suc, ◌+◌}
+use mathlib.Core.Logic.{inl, inr}
+use lib.ListN.{get_or}
 use native.Mathlib.Numerals.{add-one}
 use native.Mathlib.Omega.{arith}
-use Rattle.rows.proofs.Bests.{better_least, best_next, single_next}
+use Rattle.rows.proofs.Bests.{Better, better_least, best_next, single_next}
 use Rattle.rows.proofs.best.Goals as goal
+use Rattle.rows.proofs.best.Goals.{then-next-found, else-next-found}
 
 pub loop-t-init : goal.loop-t-init
 loop-t-init c = (omega arith, omega arith, (omega arith, λ e. refl), (λ os r h. omega arith))
@@ -17,11 +20,16 @@ overflow_add-next-in-loop-t c = omega (arith, c.requires.4 c.loop-t.t (omega ari
 
 pub loop-t-preserved : goal.loop-t-preserved
 loop-t-preserved c =
-    let better = better_least _ _ _ c.min-found.ensures in (
+    let better : Better c.loop-t.found (record { total = get_or c.args.totals.now c.loop-t.t 0 + c.loop-t.t + c.args.base; mask = get_or c.args.masks.now c.loop-t.t 0 })
+    c.if-next-found.found =
+    elim c.if-next-found.branch [
+      | then-next-found w ↦ better_least _ _ _ (w.found-is ∙ w.min-found.ensures)
+      | else-next-found w ↦ inr (w.found-is, inl w.if-next-found.false)
+    ] in (
       refl,
       omega arith,
       single_next _ _ _ better c.loop-t.invariant.2,
-      (λ os r h. rw add-one (best_next _ os _ _ _ _ _ _ _ r h c.requires.3
+      (λ os r h. rw add-one (best_next c.args.d os c.args.base c.loop-t.t _ _ _ _ _ r h c.requires.3
           c.requires.2 (omega arith) refl refl better
           (c.loop-t.invariant.3 os r h))),
     )
