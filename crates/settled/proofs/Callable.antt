@@ -110,7 +110,8 @@ module _ (T : RattleType) (L : Laws T) (P : Print.Ghosts T.Denot) (d : Dict) whe
 
 module _ (T : RattleType) (L : Laws T) (P : Write.Ghosts T.Denot) (d : Dict) where
   -- whatever it is handed to, likewise
-  pub replay_to : AsksOnly (replaying_contracts.replay_to.ended T P d) (λ κs i. (a : ℕ) → Mem a T.lives → Mem a κs.1.1.0) (replaying.replay_to.Reads.Pre T L P d)
+  pub replay_to :
+      AsksOnly (replaying_contracts.replay_to.ended T P d) (λ κs i. (a : ℕ) → Mem a T.lives → Mem a κs.1.1.0) (replaying.replay_to.Reads.Pre T L P d)
   replay_to κs i lives = lives
 
 pub zb_plan_free : AsksNothing panel_contracts.zb_plan_free.ended panel.zb_plan_free.Reads.Pre
