@@ -11,7 +11,7 @@ use Rattle.model.proofs.Runs.{fits_iff_runs}
 use Rattle.records.specs.Refusals.{accepted}
 use Rattle.table.specs.Tables.{JobTable}
 use Rattle.plan.specs.Plans.{plan_bytes, steps_for}
-use Rattle.planner.specs.declared.Planned.{Planned}
+use Rattle.planner.specs.Answers.{Planned}
 use Rattle.planner.specs.Answers.{planned_says, Writes}
 use Rattle.judge.specs.Check.{Checked}
 use Rattle.judge.specs.Check.{checked_says}

@@ -19,9 +19,8 @@ use Rattle.records.specs.Limits.{largest_time, longest_plan}
 use Rattle.records.specs.Refusals.{refusal_says, accepted, refused}
 use Rattle.table.specs.Tables.{JobTable, read_table}
 use Rattle.records.proofs.Refusals.{says_not_zero}
-use Rattle.planner.specs.declared.Planned.{Planned}
-use Rattle.planner.specs.declared.Least.{Least}
-use Rattle.planner.proofs.Settled.{best_meets}
+use Rattle.planner.specs.Answers.{Planned, Least}
+use Rattle.planner.specs.Orders.{best_meets}
 use Rattle.planner.specs.Answers.{planned_says, least_says, PlanAnswer, no_room, bad_table, no_plan, planned}
 use Rattle.planner.specs.Answers.{Possible, FreePlan, GivenPlan, LeastAnswer, never_met, met_from}
 use Rattle.faults.specs.Faults.{Byte, TableFault, TableIs}

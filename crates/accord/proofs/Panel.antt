@@ -3,7 +3,7 @@
 use Prim.Native.Nat.{ℕ}
 use mathlib.Core.Path.{refl}
 use mathlib.Core.List.{List}
-use Rattle.planner.specs.declared.Planned.{Planned}
+use Rattle.planner.specs.Answers.{Planned}
 use Rattle.judge.specs.Check.{check_plan}
 use Rattle.faults.specs.Allows.{CheckAllows}
 use Rattle.panel.specs.declared.PlannedNumbers.{PlannedNumbers}

@@ -26,7 +26,7 @@ use Rattle.records.proofs.Refusals.{says_not_zero}
 use Rattle.plan.specs.declared.Step.{Step}
 use Rattle.plan.specs.Plans.{step_id, plan_bytes, step_of, steps_for}
 use Rattle.plan.proofs.Steps.{plan_length, steps_length}
-use Rattle.planner.specs.declared.Planned.{Planned}
+use Rattle.planner.specs.Answers.{Planned}
 use Rattle.planner.specs.Answers.{planned_says, Writes, PlanAnswer, no_room, bad_table, no_plan, planned, FreePlan, GivenPlan}
 use Rattle.faults.specs.Faults.{Byte, TableIs, GoodPlan, PlanIs}
 use Rattle.faults.specs.Checks.{PlanOf}

@@ -5,7 +5,7 @@ use native.Mathlib.Omega.{arith}
 use mathlib.Core.Path.{◌≡◌, refl, sym, ap, subst, ◌∙◌}
 use mathlib.Core.Bool.{Bool, true, false}
 use mathlib.Core.List.{List, [], ◌∷◌, ◌++◌}
-use Rattle.std.specs.Prelude.{Option, None, Some}
+use Rattle.std.specs.Prelude.{Option, None, Some, Err, Ok}
 use lib.ListN.{length, drop}
 use lib.Dec.{ltb}
 use borrow.Author.Tests.{ltb-true, ltb-false}
@@ -20,13 +20,11 @@ use Rattle.records.specs.Refusals.{Outcome, accepted, refused}
 use Rattle.table.specs.Tables.{JobTable, read_table}
 use Rattle.table.proofs.Accepted.{accepted_good}
 use Rattle.plan.specs.Plans.{plan_bytes, steps_for}
-use Rattle.planner.specs.declared.Planned.{Planned}
-use Rattle.planner.specs.declared.Planned.TheVariants.{PlanWritten, NotPlanned}
-use Rattle.planner.proofs.Settled.{best_meets, one_best}
+use Rattle.planner.specs.Answers.{Planned}
+use Rattle.planner.specs.Orders.{best_meets, one_best}
 use Rattle.planner.specs.Answers.{no_room, bad_table, no_plan, planned, BestPlan, FreeAnswer}
 use Rattle.faults.specs.Faults.{Byte}
 use Rattle.faults.proofs.Tables.{table_is}
-use Rattle.listing.specs.declared.Listed.{Listed}
 use Rattle.listing.specs.Listing.{plan_text, found_text, outcome_text, text_of, room_for_text, listed_says, Lists, no_room as no_space, text_written}
 use Rattle.listing.proofs.Texts.{refused_text_lem}
 use Rattle.accord.specs.Allows.{FreeAllows, ListAllows}
@@ -68,7 +66,7 @@ module _ (s : List ℕ) (bytes : All Byte s) (before : List ℕ) (r : Planned) (
       subst (TextOf s r after) (sym (text_plan s t e xs p))
       (of_plan t xs (length (plan_bytes (steps_for xs))) (busy xs) (last_from 0 xs) table of h.says (front t table.0 xs of before r after h))
 
-  pub prints : FreeAllows s before r after → (buffer : List ℕ) (q : Listed) (out : List ℕ) → ListAllows s buffer q out → room_for_text ≤ length buffer →
+  pub prints : FreeAllows s before r after → (buffer : List ℕ) (q : Option ℕ) (out : List ℕ) → ListAllows s buffer q out → room_for_text ≤ length buffer →
       (text : List ℕ) × TextOf s r after text × (listed_says q ≡ 0 ∷ length text ∷ []) × (out ≡ text ++ drop (length text) buffer)
   prints free buffer q out lists space = go lists
     where
@@ -77,7 +75,7 @@ module _ (s : List ℕ) (bytes : All Byte s) (before : List ℕ) (r : Planned) (
       go (text_written enough says area) = (text_of s, text_of_lem free, says, area)
 
 -- Without room for the longest text it says 18 and leaves the buffer, whatever the table.
-pub prints_room : (s buffer : List ℕ) (q : Listed) (out : List ℕ) → ListAllows s buffer q out → length buffer < room_for_text →
+pub prints_room : (s buffer : List ℕ) (q : Option ℕ) (out : List ℕ) → ListAllows s buffer q out → length buffer < room_for_text →
     (listed_says q ≡ 18 ∷ []) × (out ≡ buffer)
 prints_room s buffer q out lists short = go lists
   where
@@ -92,21 +90,21 @@ free_answers s before = fits (ltb (length before) longest_plan) refl
     answers : longest_plan ≤ length before → (t : JobTable) → read_table s ≡ accepted t → (o : Option (List Chosen)) → free most_jobs t.deadline t.jobs ≡ o →
         (r : Planned) × (after : List ℕ) × FreeAnswer s before r after
     answers room t e None q = (
-      NotPlanned R.None,
+      Err R.None,
       before,
       no_plan room t e ((free_none_iff most_jobs t.jobs (few s t e) t.deadline).0 q) (record { says = refl; left = refl }),
     )
     answers room t e (Some xs) q =
         let bytes = plan_bytes (steps_for xs) in (
-          PlanWritten (length bytes) (busy xs) (last_from 0 xs),
+          Ok (record { bytes = length bytes; busy = busy xs; last = last_from 0 xs }),
           bytes ++ drop (length bytes) before,
           planned room t e xs (free_best most_jobs t.jobs (few s t e) t.deadline xs q) (record { says = refl; front = refl }),
         )
 
     reads : longest_plan ≤ length before → (o : Outcome JobTable) → read_table s ≡ o → (r : Planned) × (after : List ℕ) × FreeAnswer s before r after
     reads room (accepted t) e = answers room t e (free most_jobs t.deadline t.jobs) refl
-    reads room (refused f) e = (NotPlanned f, before, bad_table room f e (record { says = refl; left = refl }))
+    reads room (refused f) e = (Err f, before, bad_table room f e (record { says = refl; left = refl }))
 
     fits : (b : Bool) → ltb (length before) longest_plan ≡ b → (r : Planned) × (after : List ℕ) × FreeAnswer s before r after
-    fits true e = (NotPlanned R.Room, before, no_room (ltb-true _ _ e) (record { says = refl; left = refl }))
+    fits true e = (Err R.Room, before, no_room (ltb-true _ _ e) (record { says = refl; left = refl }))
     fits false e = reads (ltb-false _ _ e) (read_table s) refl

@@ -3,10 +3,8 @@
 use Rattle.std.specs.Prelude.{ℕ, List, [], Option}
 use Rattle.choice.specs.declared.Prepared.{Prepared}
 use Rattle.choice.proofs as choice
-use Rattle.planner.specs.declared.Planned.{Planned}
-use Rattle.planner.specs.declared.Least.{Least}
+use Rattle.planner.specs.Answers.{Planned, Least}
 use Rattle.planner.proofs as planner
-use Rattle.listing.specs.declared.Listed.{Listed}
 use Rattle.listing.proofs as listing
 use Rattle.faults.specs.Allows.{to, to_mut}
 
@@ -19,7 +17,7 @@ GivenAllows s before r after = planner.plan_given.Reads.Learnt ([], ([], tt)) (t
 abbrev pub LeastAllows : List ℕ → Least → Type 0
 LeastAllows s r = planner.least_deadline.Reads.Learnt ([], tt) (to s, tt) r (to s, tt)
 
-abbrev pub ListAllows : List ℕ → List ℕ → Listed → List ℕ → Type 0
+abbrev pub ListAllows : List ℕ → List ℕ → Option ℕ → List ℕ → Type 0
 ListAllows s before r after = listing.list_plan.Reads.Learnt ([], ([], tt)) (to s, (to_mut before, tt)) r (to s, (to_mut after, tt))
 
 -- what the planners ask of the table's jobs once they are prepared

@@ -11,7 +11,7 @@ use Rattle.records.specs.Limits.{largest_time, longest_plan}
 use Rattle.records.specs.Refusals.{refusal_says, accepted}
 use Rattle.table.specs.Tables.{JobTable, run_deadline}
 use Rattle.plan.specs.Plans.{plan_bytes, steps_for}
-use Rattle.planner.specs.declared.Planned.{Planned}
+use Rattle.planner.specs.Answers.{Planned}
 use Rattle.planner.specs.Answers.{planned_says, Possible}
 use Rattle.faults.specs.Faults.{TableFault, TableIs, PlanIs}
 

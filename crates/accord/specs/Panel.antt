@@ -1,8 +1,7 @@
 -- What the own contracts of the C functions allow, and what it is that a record is handed out of an answer. Assumes nothing.
 use Rattle.std.specs.Prelude.{ℕ, List, [], ◌≡◌}
-use Rattle.planner.specs.declared.Planned.{Planned}
+use Rattle.planner.specs.Answers.{Planned, Least}
 use Rattle.planner.specs.Answers.{planned_says, least_says}
-use Rattle.planner.specs.declared.Least.{Least}
 use Rattle.faults.specs.Allows.{to, to_mut}
 use Rattle.judge.specs.Check.{Checked}
 use Rattle.judge.specs.Check.{checked_says}

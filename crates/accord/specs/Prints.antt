@@ -7,7 +7,7 @@ use Rattle.records.specs.declared.refusal.Refusal.{Refusal}
 use Rattle.records.specs.Refusals.{refusal_says, accepted}
 use Rattle.table.specs.Tables.{JobTable}
 use Rattle.plan.specs.Plans.{plan_bytes, steps_for}
-use Rattle.planner.specs.declared.Planned.{Planned}
+use Rattle.planner.specs.Answers.{Planned}
 use Rattle.planner.specs.Answers.{planned_says}
 use Rattle.faults.specs.Faults.{TableIs}
 use Rattle.faults.specs.Checks.{PlanOf}

@@ -1,6 +1,6 @@
 -- A plan in the making: the jobs laid so far in plan order, as steps and as numbers.
 -- Assumes nothing.
-use Rattle.std.specs.Prelude.{List, Bool, cond}
+use Rattle.std.specs.Prelude.{List}
 use Rattle.std.specs.Prelude.{Option, None, Some}
 use Rattle.model.specs.Timetable.{Chosen}
 use Rattle.model.specs.Laying.{laid_of, laid_with}
@@ -13,9 +13,6 @@ draft_of cs = record { plan = plan_of (steps_for cs); laid = laid_of cs }
 
 abbrev pub with_chosen : Draft → Chosen → Draft
 with_chosen d c = record { plan = with_step d.plan (step_of c); laid = laid_with d.laid c }
-
-abbrev pub with_if : Draft → Bool → Chosen → Draft
-with_if d listed c = cond listed (with_chosen d c) d
 
 -- what a planner finds: a plan in plan order, or none
 abbrev pub drafted_of : Option (List Chosen) → Option Draft

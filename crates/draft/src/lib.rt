@@ -1,10 +1,10 @@
 // A plan in the making: its steps so far, with their busy total and last finish. Both planners make theirs with it.
 #![tactic(auto)]
 
-ghost use Rattle.std.specs.Prelude.{◌≡◌, true, [], ◌≤◌, ◌<◌};
+ghost use Rattle.std.specs.Prelude.{◌≡◌, [], ◌≤◌, ◌<◌};
 ghost use Rattle.model.specs.Laying.{chosen, most_busy};
 ghost use Rattle.records.specs.Limits.{most_jobs};
-ghost use Rattle.draft.specs.Drafts.{draft_of, with_chosen, with_if};
+ghost use Rattle.draft.specs.Drafts.{draft_of, with_chosen};
 
 use model::{Job, Laid};
 use plan::{Plan, Step};
@@ -32,16 +32,5 @@ impl Draft {
     {
         self.plan.push(Step { id: job.id, away });
         self.laid = self.laid.with(job, away);
-    }
-
-    // With one job more at its end, if it is listed.
-    pub fn with_if(mut self, listed: bool, job: Job, away: bool) -> Draft
-        requires { listed ≡ true → (self.plan.count < most_jobs) × (self.laid.busy ≤ most_busy) }
-        ensures { result ≡ with_if self listed (chosen job away) }
-    {
-        if listed {
-            self.push(job, away);
-        }
-        self
     }
 }

@@ -47,7 +47,7 @@ fn entries_of(jobs: &[Job], plan: &[u8]) -> [Entry; Table::MOST_JOBS]
     entries
 }
 
-// The positions in a table's jobs of a plan's, in plan order.
+// Where the jobs of a plan, in plan order, stand in the table.
 fn positions_of(jobs: &[Job], plan: &[u8]) -> [usize; Table::MOST_JOBS]
     requires { (length jobs.now ≤ most_jobs) × (length jobs.now ≤ length (steps_in (read_plan plan.now))) }
     ensures { result ≡ positions_of jobs.now (steps_in (read_plan plan.now)) (length jobs.now) }

@@ -18,12 +18,6 @@ use Rattle.frame_log.specs.declared.CallKind.TheVariants.{Begin, Other}
 use Rattle.frame_log.specs.declared.Whole.{Whole}
 use Rattle.frame_log.specs.Log.{kind_of, record_size, read_as, record_at}
 
--- with no byte there is none
-pub read_empty : (s : List ℕ) → length s ≡ 0 → None ≡ record_at s
-unfolding record_at kind_of
-read_empty [] h = refl
-read_empty (b ∷ s) h = absurd (omega arith)
-
 -- every record has a byte
 some_byte : (k : CallKind) (s : List ℕ) → 0 < record_size k s
 some_byte Begin s = omega arith

@@ -151,7 +151,9 @@ module _ (n : ℕ) (t : JobTable) (xs : List plan.Step) (p : PlanFits t xs) wher
   order_at k h = filled_at 0 (step_position js xs) count k p.good.few h
 
   -- the k-th step's job is found where the order says
-  found_by : (k : ℕ) → k < count → (m : ℕ) → position_of js (get_or xs k no_step).id ≡ Some m → position_of js (get_or xs k no_step).id ≡ Some (position_at order k)
+  found_by :
+      (k : ℕ) → k < count → (m : ℕ) → position_of js (get_or xs k no_step).id ≡ Some m →
+      position_of js (get_or xs k no_step).id ≡ Some (position_at order k)
   found_by k h m e = e ∙ ap Some (sym (order_at k h ∙ ap indexed e))
 
   found_at : (k : ℕ) → k < count → position_of js (get_or xs k no_step).id ≡ Some (position_at order k)

@@ -2,7 +2,7 @@
 -- Assumes nothing.
 use mathlib.Core.Path.{◌≡◌, refl, sym, ap, subst, ◌∙◌}
 use mathlib.Core.Logic.{◌⊎◌, inl, inr}
-use mathlib.Core.Bool.{Bool, true, false, not}
+use mathlib.Core.Bool.{Bool, true, false, cond, not}
 use mathlib.Core.List.{List, [], ◌∷◌, ◌++◌}
 use Prim.Native.Nat.{ℕ, ◌+◌, ◌≤◌, ◌<◌}
 use native.Mathlib.Omega.{arith}
@@ -24,10 +24,14 @@ use Rattle.table.specs.Tables.{TimesOk}
 use Rattle.choice.specs.Choices.{SoundJobs, jobs_at}
 use Rattle.choice.proofs.AwayJobs.{order_jobs, as_many, positions_few}
 use Rattle.draft.specs.declared.Draft.{Draft}
-use Rattle.draft.specs.Drafts.{draft_of, with_if}
+use Rattle.draft.specs.Drafts.{draft_of, with_chosen}
 use Rattle.draft.proofs.Drafts.{listing_begin, Roomy, Listing, listing_end, listing_room, listing_more}
 use Rattle.free.specs.Parts.{in_away_order, HereRoom}
 use Rattle.plan.proofs.Steps.{steps_length}
+
+-- a draft with one job more, if it is listed
+abbrev with_if : Draft → Bool → Chosen → Draft
+with_if d listed c = cond listed (with_chosen d c) d
 
 -- where a job is listed only if it is away, or only if it is here, its choice is told by that
 pub listed_away : (d : Draft) (b : Bool) (j : Job) → with_if d b (chosen j true) ≡ with_if d b (chosen j b)
@@ -146,11 +150,11 @@ module _ (js : List Job) (sound : SoundJobs js) (flags : List Bool) where
     away_room e =
         listing_room is_away [] cs away_roomy draft k a.listing (chosen j (get_or flags i false)) first (omega (arith, away_count, at_more)) at_next e
 
-    pub away_more : (r : Draft) → r ≡ with_if draft (get_or flags i false) (chosen j true) → Away js flags r is os (k + 1)
-    away_more r e =
+    pub away_more : (b : Bool) → get_or flags i false ≡ b → (r : Draft) → r ≡ with_if draft b (chosen j true) → Away js flags r is os (k + 1)
+    away_more b flag r e =
         record {
           listing =
-              rw (e, listed_away draft (get_or flags i false) j)
+              rw (e, ← flag, listed_away draft (get_or flags i false) j)
               (listing_more is_away [] cs away_roomy draft k a.listing (chosen j (get_or flags i false)) first (omega (arith, away_count, at_more)) at_next);
           at_left = left_rest (positions js) at is i k a.at_left p;
           jobs_left = left_rest (jobs_in_away_order js) jobs os j k a.jobs_left q;
@@ -204,11 +208,11 @@ module _ (jobs : List Job) (flags : List Bool) (front : Draft) (room : HereRoom 
       pub here_room : not w ≡ true → (draft.plan.count < most_jobs) × (draft.laid.busy ≤ most_busy)
       here_room e = listing_room here before hs here_roomy draft k h.listing (chosen j w) no_choice (omega (arith, here_many, more)) next e
 
-      pub here_more : (r : Draft) → r ≡ with_if draft (not w) (chosen j false) → Here jobs flags before r js ws (k + 1)
-      here_more r e =
+      pub here_more : (b : Bool) → not w ≡ b → (r : Draft) → r ≡ with_if draft b (chosen j false) → Here jobs flags before r js ws (k + 1)
+      here_more b flag r e =
           record {
             listing =
-                rw (e, listed_here draft w j)
+                rw (e, ← flag, listed_here draft w j)
                 (listing_more here before hs here_roomy draft k h.listing (chosen j w) no_choice (omega (arith, here_many, more)) next);
             jobs_left = left_rest jobs left js j k h.jobs_left p;
             flags_left = left_rest flags fs ws w k h.flags_left q;

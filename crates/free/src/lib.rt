@@ -24,7 +24,9 @@ fn away_part(p: &Prepared, flags: &[bool; Table::MOST_JOBS]) -> Draft
 {
     let mut draft = Draft::empty();
     for (position, job) in p.order.as_slice().iter().zip(p.away_jobs()) {
-        draft = draft.with_if(flags[*position], *job, true);
+        if flags[*position] {
+            draft.push(*job, true);
+        }
     }
     draft
 }
@@ -37,7 +39,9 @@ fn here_part(front: Draft, jobs: &[Job], flags: &[bool; Table::MOST_JOBS]) -> Dr
 {
     let mut draft = front;
     for (job, away) in jobs.iter().zip(flags) {
-        draft = draft.with_if(!away, *job, false);
+        if !away {
+            draft.push(*job, false);
+        }
     }
     draft
 }

@@ -22,7 +22,7 @@ use Rattle.records.specs.Refusals.{accepted}
 use Rattle.table.specs.Tables.{JobTable, read_table}
 use Rattle.table.proofs.Accepted.{accepted_good}
 use Rattle.plan.specs.Plans.{plan_bytes, steps_for}
-use Rattle.planner.specs.declared.Planned.{Planned}
+use Rattle.planner.specs.Answers.{Planned}
 use Rattle.planner.specs.Answers as A
 use Rattle.planner.specs.Answers.{BestPlan, FreeAnswer, GivenAnswer, LeastAnswer}
 use Rattle.marked.specs.Marked.{Claimed, plan_is, no_plan, no_given, least_is}

@@ -13,7 +13,7 @@ use Rattle.records.specs.Refusals.{accepted}
 use Rattle.records.specs.Records.{form_of, judged, used, list_from}
 use Rattle.table.specs.Tables.{JobTable, frame_at, job_at, jobs_read, read_table}
 use Rattle.plan.specs.Plans.{plan_bytes}
-use Rattle.planner.specs.declared.Planned.{Planned}
+use Rattle.planner.specs.Answers.{Planned}
 use Rattle.planner.specs.Answers.{planned_says, GivenAnswer}
 use Rattle.marked.specs.Marked.{E, plan_e, either, stays, framed}
 use Rattle.marked.proofs.Cases.{given_plan_case}

@@ -14,7 +14,7 @@ use Rattle.records.specs.Refusals.{accepted}
 use Rattle.table.specs.Tables.{JobTable, read_table}
 use Rattle.records.proofs.Refusals.{says_not_zero}
 use Rattle.plan.specs.Plans.{plan_bytes, steps_for}
-use Rattle.planner.specs.declared.Least.{Least}
+use Rattle.planner.specs.Answers.{Least}
 use Rattle.planner.specs.Answers as A
 use Rattle.planner.specs.Answers.{PlanAnswer, Possible, BestPlan, FreePlan, GivenPlan}
 use Rattle.marked.specs.Marked.{E, plan_e, marked, AllHold}

@@ -3,7 +3,6 @@
 use mathlib.Core.Path.{◌≡◌, refl, sym, ap, ◌∙◌}
 use mathlib.Core.List.{List, [], ◌∷◌, ◌++◌, map, map-append}
 use Prim.Native.Nat.{ℕ}
-use Rattle.table.specs.declared.TableRead.{TableRead}
 use Rattle.table.specs.Tables.{read_table, table_read, verdict_says}
 use Rattle.judge.specs.Check.{checked_says, check_plan}
 use Rattle.frame_record.specs.declared.Event.{Event}
@@ -15,8 +14,8 @@ use Rattle.frame_promises.specs.History.{Turn, idle, done, replies}
 use Rattle.frame_promises.proofs.Replies.{replies_told}
 use Rattle.marked.specs.Marked.{Claimed, reads, checks, after_events}
 
-pub read_case : (s ns : List ℕ) → verdict_says (table_read (read_table s)).verdict ≡ ns → Claimed s (reads ns)
-read_case s ns e r a = ap (λ (x : TableRead). verdict_says x.verdict) a ∙ e
+pub read_case : (s ns : List ℕ) → verdict_says (table_read (read_table s)) ≡ ns → Claimed s (reads ns)
+read_case s ns e r a = ap verdict_says a ∙ e
 
 pub check_case : (s p ns : List ℕ) → checked_says (check_plan s p) ≡ ns → Claimed s (checks p ns)
 check_case s p ns e r a = ap checked_says a ∙ e

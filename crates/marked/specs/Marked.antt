@@ -1,14 +1,14 @@
 -- Document 01, 'Marked cases': each a table with what is claimed of it, told of whatever meets the contracts.
 -- Assumes nothing.
-use Rattle.std.specs.Prelude.{◌≡◌, false, pos, List, [], ◌∷◌, ◌++◌, map, ℕ, zero, suc, ◌≤◌, ◌%◌, ◌/◌, Float, length, drop}
+use Rattle.std.specs.Prelude.{◌≡◌, false, pos, List, [], ◌∷◌, ◌++◌, map, ℕ, zero, suc, ◌≤◌, ◌%◌, ◌/◌, Float, length, drop, Result}
 use Rattle.std.specs.Float.{fin}
 use Rattle.model.specs.Lists.{All}
 use Rattle.records.specs.declared.refusal.Refusal.TheVariants.{None}
 use Rattle.records.specs.Limits.{longest_plan}
 use Rattle.table.specs.Tables.{verdict_says}
-use Rattle.table.specs.declared.TableRead.{TableRead}
-use Rattle.planner.specs.declared.Planned.{Planned}
-use Rattle.planner.specs.declared.Least.{Least}
+use Rattle.records.specs.declared.refusal.Refusal.{Refusal}
+use Rattle.table.specs.declared.Table.{Table}
+use Rattle.planner.specs.Answers.{Planned, Least}
 use Rattle.planner.specs.Answers.{planned_says, least_says, Refuses}
 use Rattle.frame_record.specs.declared.Event.{Event}
 use Rattle.frame_record.specs.declared.Event.TheVariants.{SpanEnd, Return, Read}
@@ -48,7 +48,7 @@ Claimed s no_plan = (before : List ℕ) (r : Planned) (after : List ℕ) → lon
 Claimed s no_given = (before : List ℕ) (r : Planned) (after : List ℕ) → longest_plan ≤ length before → GivenAllows s before r after →
     Refuses None before r after
 Claimed s (least_is d) = (r : Least) → LeastAllows s r → least_says r ≡ 0 ∷ d ∷ []
-Claimed s (reads ns) = (r : TableRead) → TableAllows s r → verdict_says r.verdict ≡ ns
+Claimed s (reads ns) = (r : Result Table Refusal) → TableAllows s r → verdict_says r ≡ ns
 Claimed s (checks p ns) = (r : Checked) → CheckAllows s p r → checked_says r ≡ ns
 Claimed s (after_events p es id r) =
     (before : List Turn) (q : Reply) → map (λ (t : Turn). t.call) before ≡ begin s p 1 ∷ map event es

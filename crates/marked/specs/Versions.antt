@@ -1,6 +1,6 @@
 -- Document 01, 'What the contracts have to settle' and 'Errors that look right': the versions that have to be shut out, each as a property that a
 -- function might have. proofs/ shows that no function that meets its contract has it. Assumes nothing.
-use Rattle.std.specs.Prelude.{◌≡◌, List, [], ◌∷◌, ◌++◌, reverse, ℕ, ◌+◌, ◌≤◌, ◌<◌, T, length, get_or, drop}
+use Rattle.std.specs.Prelude.{◌≡◌, List, [], ◌∷◌, ◌++◌, reverse, ℕ, ◌+◌, ◌≤◌, ◌<◌, T, length, get_or, drop, Ok}
 use Rattle.model.specs.Lists.{All, filter, total, greatest}
 use Rattle.model.specs.Timetable.{Chosen, here, setup_time, return_time, span, finish}
 use Rattle.model.specs.FreeOrder.{Choice, is_away, away_order, laid, Fits, Workable}
@@ -9,8 +9,7 @@ use Rattle.records.specs.Limits.{longest_plan}
 use Rattle.records.specs.Refusals.{refusal_says, accepted}
 use Rattle.table.specs.Tables.{JobTable, read_table}
 use Rattle.plan.specs.Plans.{plan_bytes, steps_for}
-use Rattle.planner.specs.declared.Planned.{Planned}
-use Rattle.planner.specs.declared.Least.{Least}
+use Rattle.planner.specs.Answers.{Planned, Least}
 use Rattle.planner.specs.Answers.{planned_says, least_says}
 use Rattle.judge.specs.Check.{Checked}
 use Rattle.judge.specs.Check.{checked_says}
@@ -125,6 +124,6 @@ module _ (r : Runner) where
   -- "Keeping the last frame's value until a new one comes": what was fresh reads so in the next frame too
   abbrev pub KeepsValues : Type 0
   KeepsValues =
-      (f : Frame) (id : ℕ) (x : Sample) → (r.step f (E.Read id)).answer ≡ Read (Fresh x) →
-      (s p : List ℕ) (n : ℕ) → (r.begin f s p n).answer ≡ Done →
-      (r.step (r.begin f s p n).frame (E.Read id)).answer ≡ Read (Fresh x)
+      (f : Frame) (id : ℕ) (x : Sample) → (r.step f (E.Read id)).answer ≡ Ok (Read (Fresh x)) →
+      (s p : List ℕ) (n : ℕ) → (r.begin f s p n).answer ≡ Ok Done →
+      (r.step (r.begin f s p n).frame (E.Read id)).answer ≡ Ok (Read (Fresh x))

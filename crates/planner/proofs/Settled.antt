@@ -6,12 +6,8 @@ use mathlib.Core.List.{List}
 use Prim.Native.Nat.{ℕ}
 use native.Mathlib.Omega.{arith}
 use Rattle.model.specs.Timetable.{Chosen, Timetable}
-use Rattle.model.specs.FreeOrder.{plan}
 use Rattle.model.specs.GivenOrder.{InOrder}
 use Rattle.model.proofs.Lists.{clash}
-use Rattle.model.proofs.Timetables.{timetable_iff_workable}
-use Rattle.model.proofs.Best.{best_unique}
-use Rattle.model.proofs.GivenOrder.{best_in_order_iff, best_in_order_unique}
 use Rattle.model.proofs.LeastDeadline.{least_unique, met_mono}
 use Rattle.records.specs.declared.refusal.Refusal.{Refusal}
 use Rattle.records.specs.declared.refusal.Refusal.TheVariants as R
@@ -19,6 +15,7 @@ use Rattle.records.specs.Limits.{largest_time}
 use Rattle.records.specs.Refusals.{refusal_says, Outcome, accepted}
 use Rattle.table.specs.Tables.{JobTable}
 use Rattle.records.proofs.Refusals.{says_injective, says_not_zero}
+use Rattle.planner.specs.Orders.{best_meets, one_best, given_meets, one_given}
 use Rattle.planner.specs.Answers.{Planned, Least, planned_says, least_says, Refuses, Writes, PlanAnswer, no_room, bad_table, no_plan, planned}
 use Rattle.planner.specs.Answers.{Possible, FreePlan, FreeRead, GivenPlan, GivenRead, LeastRead, never_met, met_from}
 
@@ -38,13 +35,6 @@ least_says_injective (Ok d) (Ok e) h = let x : d ≡ e = cc in ap Ok x
 least_says_injective (Ok d) (Err g) h = absurd (says_not_zero g _ (sym h))
 least_says_injective (Err f) (Ok e) h = absurd (says_not_zero f _ h)
 least_says_injective (Err f) (Err g) h = ap Err (says_injective f g h)
-
--- a free-order plan tells that some timetable meets its deadline, and there is one only
-pub best_meets : (t : JobTable) (xs : List Chosen) → FreePlan t xs → Possible Timetable t
-best_meets t xs p = (timetable_iff_workable t.deadline t.jobs).1 (p.0, p.1.choice, p.1.workable)
-
-pub one_best : (t : JobTable) (xs ys : List Chosen) → FreePlan t xs → FreePlan t ys → xs ≡ ys
-one_best t xs ys p o = p.2 ∙ (ap plan (best_unique t.deadline t.jobs p.0 o.0 p.1 o.1) ∙ sym o.2)
 
 -- the same answer, and the same area afterwards
 abbrev pub Same : Planned → List ℕ → Planned → List ℕ → Type 0
@@ -66,7 +56,7 @@ module _ (read : Outcome JobTable) (before : List ℕ) (r : Planned) (a : List �
       (possible : (t : JobTable) (xs : List Chosen) → IsPlan t xs → CanMeet t)
       (unique : (t : JobTable) (xs ys : List Chosen) → IsPlan t xs → IsPlan t ys → xs ≡ ys)
     where
-      planner_settled : PlanAnswer CanMeet IsPlan read before r a → PlanAnswer CanMeet IsPlan read before q b → Same r a q b
+      pub planner_settled : PlanAnswer CanMeet IsPlan read before r a → PlanAnswer CanMeet IsPlan read before q b → Same r a q b
       planner_settled (no_room l h) (no_room m k) = both_refuse R.Room R.Room refl h k
       planner_settled (no_room l h) (bad_table m g e k) = absurd (omega arith)
       planner_settled (no_room l h) (no_plan m t e n k) = absurd (omega arith)
@@ -88,12 +78,6 @@ module _ (read : Outcome JobTable) (before : List ℕ) (r : Planned) (a : List �
 
   pub free_settled : FreeRead read before r a → FreeRead read before q b → Same r a q b
   free_settled = planner_settled (Possible Timetable) FreePlan best_meets one_best
-
-  given_meets : (t : JobTable) (xs : List Chosen) → GivenPlan t xs → Possible InOrder t
-  given_meets t xs p = (best_in_order_iff t.deadline t.jobs).0 (xs, p)
-
-  one_given : (t : JobTable) (xs ys : List Chosen) → GivenPlan t xs → GivenPlan t ys → xs ≡ ys
-  one_given t xs ys p o = best_in_order_unique t.deadline t.jobs xs ys p o
 
   pub given_settled : GivenRead read before r a → GivenRead read before q b → Same r a q b
   given_settled = planner_settled (Possible InOrder) GivenPlan given_meets one_given

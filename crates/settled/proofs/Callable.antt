@@ -25,6 +25,7 @@ use Rattle.panel.specs.contracts as panel_contracts
 use Rattle.input.proofs as input
 use Rattle.input.specs.contracts as input_contracts
 use Rattle.std.specs.declared.io.Read
+use Rattle.std.specs.declared.io.Write
 use Rattle.settled.specs.Settled.{AsksNothing, AsksOnly}
 use Prim.Native.Nat.{ℕ}
 use mathlib.Core.List.{Mem}
@@ -66,11 +67,17 @@ idle κs i = tt
 pub sound : AsksNothing frame_record_contracts.Frame.sound.ended frame_record.Frame.sound.Reads.Pre
 sound κs i = tt
 
-pub is_in : AsksNothing frame_record_contracts.Frame.is_in.ended frame_record.Frame.is_in.Reads.Pre
-is_in κs i = tt
+pub is_open : AsksNothing frame_record_contracts.Frame.is_open.ended frame_record.Frame.is_open.Reads.Pre
+is_open κs i = tt
 
-pub refuse : AsksNothing frame_record_contracts.Frame.refuse.ended frame_record.Frame.refuse.Reads.Pre
-refuse κs i = tt
+pub has_begun : AsksNothing frame_record_contracts.Frame.has_begun.ended frame_record.Frame.has_begun.Reads.Pre
+has_begun κs i = tt
+
+pub is_ready : AsksNothing frame_record_contracts.Frame.is_ready.ended frame_record.Frame.is_ready.Reads.Pre
+is_ready κs i = tt
+
+pub answered : AsksNothing frame_record_contracts.Frame.answered.ended frame_record.Frame.answered.Reads.Pre
+answered κs i = tt
 
 pub begin : AsksNothing frame_begin_contracts.begin.ended frame_begin.begin.Reads.Pre
 begin κs i = tt
@@ -100,6 +107,12 @@ module _ (T : RattleType) (L : Laws T) (P : Print.Ghosts T.Denot) (d : Dict) whe
   -- whatever it prints to, as long as that lives, which its type says
   pub replay : AsksOnly (replaying_contracts.replay.ended T P d) (λ κs i. (a : ℕ) → Mem a T.lives → Mem a κs.1.1.0) (replaying.replay.Reads.Pre T L P d)
   replay κs i lives = lives
+
+module _ (T : RattleType) (L : Laws T) (P : Write.Ghosts T.Denot) (d : Dict) where
+  -- whatever it is handed to, likewise
+  pub replay_to :
+      AsksOnly (replaying_contracts.replay_to.ended T P d) (λ κs i. (a : ℕ) → Mem a T.lives → Mem a κs.1.1.0) (replaying.replay_to.Reads.Pre T L P d)
+  replay_to κs i lives = lives
 
 pub zb_plan_free : AsksNothing panel_contracts.zb_plan_free.ended panel.zb_plan_free.Reads.Pre
 zb_plan_free κs i = tt

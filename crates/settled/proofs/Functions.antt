@@ -55,8 +55,12 @@ use Rattle.panel.specs.contracts as panel_contracts
 use Rattle.frame_lent.specs.contracts as frame_lent_contracts
 use Rattle.panel.specs.Numbers.{planned_numbers, least_numbers}
 use Rattle.frame_record.specs.declared.Called.{Called}
-use Rattle.settled.specs.Settled.{Settles, SettlesAsked, SettlesPart}
+use Rattle.settled.specs.Settled.{Settles, SettlesAsked, SettlesPart, SettlesOnly}
 use Rattle.std.specs.declared.io.Print
+use Rattle.planner.specs.declared.orders.Order
+use Rattle.records.specs.declared.kind.Allowed
+use Rattle.planner.specs.Orders.{Finds}
+use Rattle.std.specs.declared.io.Write
 use denote.RattleType.{RattleType}
 use denote.Param.Laws.{Laws}
 use mir.Syntax.{Dict}
@@ -108,6 +112,14 @@ place_start κs i r s m n p q = (p ∙ sym q, refl)
 pub place_past : Settles records_contracts.refusal.Place.past.ended records.refusal.Place.past.Reads.Learnt
 place_past κs i r s m n p q = (p ∙ sym q, refl)
 
+-- of whatever kinds may stand there
+module _ (T : RattleType) (L : Laws T) (P : Allowed.Ghosts T.Denot) (d e : Dict) where
+  pub opened : Settles (records_contracts.record.opened.ended T P d e) (records.record.opened.Reads.Learnt T L P d e)
+  opened κs i r s m n p q = (p ∙ sym q, refl)
+
+pub ended_at : Settles records_contracts.record.ended_at.ended records.record.ended_at.Reads.Learnt
+ended_at κs i r s m n p q = (p ∙ sym q, refl)
+
 pub numbers_of : Settles records_contracts.refusal.numbers_of.ended records.refusal.numbers_of.Reads.Learnt
 numbers_of κs i r s m n p q = (p ∙ sym q, refl)
 
@@ -156,8 +168,8 @@ index_of κs i r s m n p q = (lookup.Lookup.indexes_one _ r s p q, refl)
 pub plan_empty : Settles plan_contracts.Plan.empty.ended plan.Plan.empty.Reads.Learnt
 plan_empty κs i r s m n p q = (p ∙ sym q, refl)
 
-pub with_step_lem : Settles plan_contracts.Plan.with_step.ended plan.Plan.with_step.Reads.Learnt
-with_step_lem κs i r s m n p q = (p ∙ sym q, refl)
+pub plan_push : Settles plan_contracts.Plan.push.ended plan.Plan.push.Reads.Learnt
+plan_push κs i r s m n p q = (refl, λ k. ((p ∙ sym q) k, m.1))
 
 pub read_plan_lem : Settles plan_contracts.read_plan.ended plan.read_plan.Reads.Learnt
 read_plan_lem κs i r s m n p q = (p ∙ sym q, refl)
@@ -200,11 +212,8 @@ earliest κs i pre r s m n p q = (choice.Answers.earliest_settled largest_time p
 pub draft_empty : Settles draft_contracts.Draft.empty.ended draft.Draft.empty.Reads.Learnt
 draft_empty κs i r s m n p q = (p ∙ sym q, refl)
 
-pub with_job : Settles draft_contracts.Draft.with_job.ended draft.Draft.with_job.Reads.Learnt
-with_job κs i r s m n p q = (p ∙ sym q, refl)
-
-pub with_if : Settles draft_contracts.Draft.with_if.ended draft.Draft.with_if.Reads.Learnt
-with_if κs i r s m n p q = (p ∙ sym q, refl)
+pub draft_push : Settles draft_contracts.Draft.push.ended draft.Draft.push.Reads.Learnt
+draft_push κs i r s m n p q = (refl, λ k. ((p ∙ sym q) k, m.1))
 
 pub given_plan : Settles given_contracts.given_plan.ended given.given_plan.Reads.Learnt
 given_plan κs i r s m n p q = (p ∙ sym q, refl)
@@ -214,11 +223,12 @@ free_plan κs i r s m n p q = (p ∙ sym q, refl)
 
 -- ---- planner
 
-pub plan_free_read : Settles planner_contracts.plan_free_read.ended planner.plan_free_read.Reads.Learnt
-plan_free_read κs i r s m n p q = let same = planner.Settled.free_settled _ _ r m.1.0 s n.1.0 p q in (same.0, λ k. (tt, (same.1 k, tt)))
-
-pub plan_given_read : Settles planner_contracts.plan_given_read.ended planner.plan_given_read.Reads.Learnt
-plan_given_read κs i r s m n p q = let same = planner.Settled.given_settled _ _ r m.1.0 s n.1.0 p q in (same.0, λ k. (tt, (same.1 k, tt)))
+-- in whatever order: its laws say that its plan is one, and that where there is a plan some timetable of its kind is on time
+module _ (T : RattleType) (L : Laws T) (P : Order.Ghosts T.Denot) (d : Dict) (finds : Finds P.can_meet P.is_plan P.found) where
+  pub plan_read : Settles (planner_contracts.plan_read.ended T P d) (planner.plan_read.Reads.Learnt T L P d)
+  plan_read κs i r s m n p q =
+      let same = planner.Settled.planner_settled _ _ r m.1.0 s n.1.0 P.can_meet P.is_plan finds.possible finds.unique p q in
+      (same.0, λ k. (tt, (same.1 k, tt)))
 
 pub least_deadline_read : Settles planner_contracts.least_deadline_read.ended planner.least_deadline_read.Reads.Learnt
 least_deadline_read κs i r s m n p q = (planner.Settled.least_settled _ r s p q, refl)
@@ -251,11 +261,17 @@ frame_idle κs i r s m n p q = (p ∙ sym q, refl)
 pub sound : Settles frame_record_contracts.Frame.sound.ended frame_record.Frame.sound.Reads.Learnt
 sound κs i r s m n p q = (p ∙ sym q, refl)
 
-pub is_in : Settles frame_record_contracts.Frame.is_in.ended frame_record.Frame.is_in.Reads.Learnt
-is_in κs i r s m n p q = (p ∙ sym q, refl)
+pub is_open : Settles frame_record_contracts.Frame.is_open.ended frame_record.Frame.is_open.Reads.Learnt
+is_open κs i r s m n p q = (p ∙ sym q, refl)
 
-pub refuse : Settles frame_record_contracts.Frame.refuse.ended frame_record.Frame.refuse.Reads.Learnt
-refuse κs i r s m n p q = (p ∙ sym q, refl)
+pub has_begun : Settles frame_record_contracts.Frame.has_begun.ended frame_record.Frame.has_begun.Reads.Learnt
+has_begun κs i r s m n p q = (p ∙ sym q, refl)
+
+pub is_ready : Settles frame_record_contracts.Frame.is_ready.ended frame_record.Frame.is_ready.Reads.Learnt
+is_ready κs i r s m n p q = (p ∙ sym q, refl)
+
+pub answered : Settles frame_record_contracts.Frame.answered.ended frame_record.Frame.answered.Reads.Learnt
+answered κs i r s m n p q = (p ∙ sym q, refl)
 
 pub position_of : Settles frame_record_contracts.Frame.position_of.ended frame_record.Frame.position_of.Reads.Learnt
 position_of κs i r s m n p q = (p ∙ sym q, refl)
@@ -302,6 +318,11 @@ log_called κs i r s m n p q = (p ∙ sym q, refl)
 module _ (T : RattleType) (L : Laws T) (P : Print.Ghosts T.Denot) (d : Dict) where
   pub replay : SettlesPart (replaying_contracts.replay.ended T P d) (λ κs r. r.frame) (replaying.replay.Reads.Learnt T L P d)
   replay κs i r s m n p q = (p ∙ sym q, refl)
+
+-- whatever it is handed to: the frame's record
+module _ (T : RattleType) (L : Laws T) (P : Write.Ghosts T.Denot) (d : Dict) where
+  pub replay_to : SettlesOnly (replaying_contracts.replay_to.ended T P d) (λ κs r. r.frame) (replaying.replay_to.Reads.Learnt T L P d)
+  replay_to κs i r s m n p q = p.0 ∙ sym q.0
 
 -- ---- panel
 

@@ -10,8 +10,7 @@ use Rattle.records.specs.declared.refusal.Refusal.{Refusal}
 use Rattle.records.specs.Records.{form_of, judged, used, list_from}
 use Rattle.records.specs.Refusals.{refusal_says, refused}
 use Rattle.table.specs.Tables.{JobTable, frame_at, job_at, jobs_read, read_table}
-use Rattle.planner.specs.declared.Planned.{Planned}
-use Rattle.planner.specs.declared.Least.{Least}
+use Rattle.planner.specs.Answers.{Planned, Least}
 use Rattle.planner.specs.Answers as A
 use Rattle.planner.specs.Answers.{PlanAnswer, planned_says, least_says}
 use Rattle.faults.specs.Allows.{to, to_mut}

@@ -16,7 +16,6 @@ use Rattle.judge.proofs as judge
 use Rattle.judge.specs.contracts as judge_contracts
 use Rattle.faults.specs.Allows.{Tells, to, to_mut}
 use Rattle.frame_record.specs.declared.Frame.{Frame}
-use Rattle.frame_record.specs.declared.Answer.TheVariants.{Refused}
 use Rattle.frame_record.specs.declared.Event.TheVariants.{Next}
 use Rattle.frame_record.specs.Sound.{sound?, open?}
 use Rattle.frame_record.specs.Answers.{idle}
@@ -55,7 +54,7 @@ pub silent_record : ¬ (Settles frame_lent_contracts.call_in.ended Silent)
 unfolding next_of open? sound?
 silent_record settles =
     let both =
-    settles ([], tt) (to_mut idle, (Next, tt)) (Refused Phase) (Refused Phase) (idle, (tt, tt)) (other, (tt, tt))
+    settles ([], tt) (to_mut idle, (Next, tt)) (Err Phase) (Err Phase) (idle, (tt, tt)) (other, (tt, tt))
     ((idle, (tt, tt)), refl) ((idle, (tt, tt)), refl) in
     let z : ◌≡◌ {A = ℕ} 0 1 = ap (λ (m : Lasts frame_lent_contracts.call_in.ended ([], tt) (to_mut idle, (Next, tt))). m.0.number) both.1 in
     omega arith

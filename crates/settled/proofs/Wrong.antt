@@ -1,6 +1,6 @@
 -- Answers that contracts rule out, for the public functions whose wrong answers no must-fail edit and no statement of crate `marked` shows.
 -- Each says: for this input the function's own contract, as in Functions.antt, does not allow this answer. Assumes nothing.
-use Rattle.std.specs.Prelude.{Option, None, Some}
+use Rattle.std.specs.Prelude.{Option, None, Some, Ok, Err}
 use mathlib.Core.Path.{◌≡◌, refl, ap}
 use mathlib.Core.Bool.{Bool, true, false}
 use mathlib.Core.List.{List, [], ◌∷◌}
@@ -17,7 +17,7 @@ use Rattle.model.proofs as model
 use Rattle.model.specs.contracts as model_contracts
 use Rattle.table.specs.declared.Table.{Table}
 use Rattle.records.specs.declared.kind.Form.{Form}
-use Rattle.records.specs.declared.kind.Meaning.TheVariants.{Row, Unknown}
+use Rattle.records.specs.declared.kind.Meaning.TheVariants.{Row}
 use Rattle.records.specs.declared.kind.RowKind.TheVariants.{HereRow}
 use Rattle.records.specs.declared.refusal.Place.{Place}
 use Rattle.records.specs.declared.refusal.Refusal.TheVariants.{Twice, Late, Phase}
@@ -53,10 +53,10 @@ use Rattle.draft.specs.contracts as draft_contracts
 use Rattle.faults.specs.Allows.{to, to_mut}
 use Rattle.frame_record.specs.declared.Frame.{Frame}
 use Rattle.frame_record.specs.declared.Phase.TheVariants.{Open}
-use Rattle.frame_record.specs.declared.Answer.TheVariants.{Done, Refused}
+use Rattle.frame_record.specs.declared.Answer.TheVariants.{Done}
 use Rattle.frame_record.specs.declared.Called.{Called}
 use Rattle.lookup.specs.Lookup.{first}
-use Rattle.frame_record.specs.Sound.{where_is, sound?, ok_begun}
+use Rattle.frame_record.specs.Sound.{where_is, sound?, open?, begun?, ready?, ok_begun}
 use Rattle.frame_record.specs.Answers.{idle}
 use Rattle.frame_record.proofs as frame_record
 use Rattle.frame_record.specs.contracts as frame_record_contracts
@@ -118,14 +118,18 @@ table_empty = (
 )
 
 -- a here-only record's body one byte short; its kind unknown
-abbrev FormNot : Form → Type 0
+abbrev FormNot : Option Form → Type 0
 FormNot f = RulesOut records_contracts.kind.form_of.ended records.kind.form_of.Reads.Learnt tt (0x11, tt) f
 
-pub form_of_lem : FormNot (form (Row HereRow) 2) × FormNot (form Unknown 3)
+abbrev body_of : Option Form → ℕ
+body_of None = 0
+body_of (Some f) = f.body
+
+pub form_of_lem : FormNot (form (Row HereRow) 2) × FormNot None
 unfolding form_of
 form_of_lem = (
-  (λ m e. let z : ◌≡◌ {A = ℕ} 2 3 = ap (λ (f : Form). f.body) e in omega arith),
-  (λ m e. clash (cc (ap (λ (f : Form). f.meaning) e))),
+  (λ m e. let z : ◌≡◌ {A = ℕ} 2 3 = ap body_of e in omega arith),
+  (λ m e. clash (cc)),
 )
 
 -- the second byte of a file, the fourth; the next record one byte short, or where this one is
@@ -149,14 +153,14 @@ place_past = (
 
 -- the number of another refusal; a place left out
 abbrev said : ℕ → Said
-said n = record { number = n; placed = false; place = 0 }
+said n = record { number = n; place = None }
 
 pub numbers_of :
     RulesOut records_contracts.refusal.numbers_of.ended records.refusal.numbers_of.Reads.Learnt tt (Late, tt) (said 12)
     × RulesOut records_contracts.refusal.numbers_of.ended records.refusal.numbers_of.Reads.Learnt tt (Twice (past start 6), tt) (said 5)
 numbers_of = (
   (λ m e. let z : ◌≡◌ {A = ℕ} 12 11 = ap (λ (s : Said). s.number) e in omega arith),
-  (λ m e. let z : ◌≡◌ {A = ℕ} 0 7 = ap (λ (s : Said). s.place) e in omega arith),
+  (λ m e. clash (cc (ap (λ (s : Said). s.place) e))),
 )
 
 -- ---- bytes, lines
@@ -244,13 +248,13 @@ plan_empty = (
 )
 
 -- the step not added; another added too
-abbrev WithNot : Plan → Type 0
-WithNot p = RulesOut plan_contracts.Plan.with_step.ended plan.Plan.with_step.Reads.Learnt tt (plan_of [], (step 1 true, tt)) p
+abbrev PushNot : Plan → Type 0
+PushNot p = ¬ (plan.Plan.push.Reads.Learnt ([], tt) (to_mut (plan_of []), (step 1 true, tt)) tt (to_mut p, (step 1 true, tt)))
 
-pub with_step_lem : WithNot (plan_of []) × WithNot (with_step one (step 2 true))
-with_step_lem = (
-  (λ m e. let z : ◌≡◌ {A = ℕ} 0 1 = ap (λ (p : Plan). p.count) e in omega arith),
-  (λ m e. let z : ◌≡◌ {A = ℕ} 2 1 = ap (λ (p : Plan). p.count) e in omega arith),
+pub plan_push : PushNot (plan_of []) × PushNot (with_step one (step 2 true))
+plan_push = (
+  (λ e. let z : ◌≡◌ {A = ℕ} 0 1 = ap (λ (p : Plan). p.count) e in omega arith),
+  (λ e. let z : ◌≡◌ {A = ℕ} 2 1 = ap (λ (p : Plan). p.count) e in omega arith),
 )
 
 -- a draft that has a job already, or numbers of none of its steps
@@ -271,22 +275,12 @@ draft_empty = (
 
 -- the job not added; its numbers without its step
 abbrev JobNot : Draft → Type 0
-JobNot d = RulesOut draft_contracts.Draft.with_job.ended draft.Draft.with_job.Reads.Learnt tt (draft_of [], (job, (true, tt))) d
+JobNot d = ¬ (draft.Draft.push.Reads.Learnt ([], tt) (to_mut (draft_of []), (job, (true, tt))) tt (to_mut d, (job, (true, tt))))
 
-pub with_job : JobNot (draft_of []) × JobNot laid_alone
-with_job = (
-  (λ m e. let z : ◌≡◌ {A = ℕ} 0 1 = ap (λ (d : Draft). d.plan.count) e in omega arith),
-  (λ m e. let z : ◌≡◌ {A = ℕ} 0 1 = ap (λ (d : Draft). d.plan.count) e in omega arith),
-)
-
--- a job left out, or listed where it should not be
-abbrev IfNot : Bool → Draft → Type 0
-IfNot listed d = RulesOut draft_contracts.Draft.with_if.ended draft.Draft.with_if.Reads.Learnt tt (draft_of [], (listed, (job, (true, tt)))) d
-
-pub with_if : IfNot true (draft_of []) × IfNot false with_one
-with_if = (
-  (λ m e. let z : ◌≡◌ {A = ℕ} 0 1 = ap (λ (d : Draft). d.plan.count) e in omega arith),
-  (λ m e. let z : ◌≡◌ {A = ℕ} 1 0 = ap (λ (d : Draft). d.plan.count) e in omega arith),
+pub draft_push : JobNot (draft_of []) × JobNot laid_alone
+draft_push = (
+  (λ e. let z : ◌≡◌ {A = ℕ} 0 1 = ap (λ (d : Draft). d.plan.count) e in omega arith),
+  (λ e. let z : ◌≡◌ {A = ℕ} 0 1 = ap (λ (d : Draft). d.plan.count) e in omega arith),
 )
 
 -- ---- choice
@@ -323,27 +317,40 @@ frame_idle = (
 )
 
 abbrev SoundNot : Frame → Bool → Type 0
-SoundNot f r = RulesOut frame_record_contracts.Frame.sound.ended frame_record.Frame.sound.Reads.Learnt tt (f, tt) r
+SoundNot f r = RulesOut frame_record_contracts.Frame.sound.ended frame_record.Frame.sound.Reads.Learnt ([], tt) (to f, tt) r
 
 pub sound : SoundNot (opened 0) true × SoundNot idle false
 unfolding sound? ok_begun
 sound = ((λ m e. clash (cc)), (λ m e. clash (cc)))
 
--- an unsound record in a phase that is allowed, a sound one in none
-abbrev InNot : Frame → (before during after r : Bool) → Type 0
-InNot f before during after r =
-    RulesOut frame_record_contracts.Frame.is_in.ended frame_record.Frame.is_in.Reads.Learnt tt (f, (before, (during, (after, tt)))) r
+-- an unsound record in a phase that is allowed, a sound one in one that is not, or not in one that is
+abbrev OpenNot : Frame → Bool → Type 0
+OpenNot f r = RulesOut frame_record_contracts.Frame.is_open.ended frame_record.Frame.is_open.Reads.Learnt ([], tt) (to f, tt) r
 
-pub is_in : InNot (opened 0) false true false true × InNot idle false true true true
-unfolding sound? ok_begun
-is_in = ((λ m e. clash (cc)), (λ m e. clash (cc)))
+pub is_open : OpenNot (opened 0) true × OpenNot idle true
+unfolding sound? open? ok_begun
+is_open = ((λ m e. clash (cc)), (λ m e. clash (cc)))
+
+abbrev BegunNot : Frame → Bool → Type 0
+BegunNot f r = RulesOut frame_record_contracts.Frame.has_begun.ended frame_record.Frame.has_begun.Reads.Learnt ([], tt) (to f, tt) r
+
+pub has_begun : BegunNot (opened 0) true × BegunNot idle true
+unfolding sound? begun? ok_begun
+has_begun = ((λ m e. clash (cc)), (λ m e. clash (cc)))
+
+abbrev ReadyNot : Frame → Bool → Type 0
+ReadyNot f r = RulesOut frame_record_contracts.Frame.is_ready.ended frame_record.Frame.is_ready.Reads.Learnt ([], tt) (to f, tt) r
+
+pub is_ready : ReadyNot (opened 0) true × ReadyNot idle false
+unfolding sound? ready? ok_begun
+is_ready = ((λ m e. clash (cc)), (λ m e. clash (cc)))
 
 -- a refusal that is said as done, and one that alters the record
-abbrev RefuseNot : Called → Type 0
-RefuseNot s = RulesOut frame_record_contracts.Frame.refuse.ended frame_record.Frame.refuse.Reads.Learnt tt (idle, (Phase, tt)) s
+abbrev AnsweredNot : Called → Type 0
+AnsweredNot s = RulesOut frame_record_contracts.Frame.answered.ended frame_record.Frame.answered.Reads.Learnt tt (idle, (Err Phase, tt)) s
 
-pub refuse : RefuseNot (record { answer = Done; frame = idle }) × RefuseNot (record { answer = Refused Phase; frame = opened 0 })
-refuse = (
+pub answered : AnsweredNot (record { answer = Ok Done; frame = idle }) × AnsweredNot (record { answer = Err Phase; frame = opened 0 })
+answered = (
   (λ m e. clash (cc (ap (λ (s : Called). s.answer) e))),
   (λ m e. clash (cc (ap (λ (s : Called). s.frame.phase) e))),
 )
@@ -353,7 +360,7 @@ abbrev single : Frame
 single = record { phase = Open; number = 0; clock = 0; deadline = 1; count = 1; next = 0; order = idle.order; entries = idle.entries }
 
 abbrev PositionNot : ℕ → Option ℕ → Type 0
-PositionNot id r = RulesOut frame_record_contracts.Frame.position_of.ended frame_record.Frame.position_of.Reads.Learnt tt (single, (id, tt)) r
+PositionNot id r = RulesOut frame_record_contracts.Frame.position_of.ended frame_record.Frame.position_of.Reads.Learnt ([], tt) (to single, (id, tt)) r
 
 pub position_of : PositionNot 0 None × PositionNot 1 (Some 0)
 unfolding where_is first

@@ -31,6 +31,12 @@ module _ (T : Ended) where
       (κs : Lfts T.signature.lifetimes) (i : Args T.signature κs) (r s : Res T.signature κs) (m n : Lasts T κs i)
       → Learnt κs i r (at_exit T κs i m) → Learnt κs i s (at_exit T κs i n) → (part κs r ≡ part κs s) × (m ≡ n)
 
+  -- So where what is left in lent memory is not the function's own either: what a writer holds.
+  abbrev pub SettlesOnly : {A : Type 0} → ((κs : Lfts T.signature.lifetimes) → Res T.signature κs → A) → Tells T → Type 0
+  SettlesOnly part Learnt =
+      (κs : Lfts T.signature.lifetimes) (i : Args T.signature κs) (r s : Res T.signature κs) (m n : Lasts T κs i)
+      → Learnt κs i r (at_exit T κs i m) → Learnt κs i s (at_exit T κs i n) → part κs r ≡ part κs s
+
   -- For the inputs i the contract rules the answer r out, whatever is left in lent memory.
   abbrev pub RulesOut : Tells T → (κs : Lfts T.signature.lifetimes) → Args T.signature κs → Res T.signature κs → Type 0
   RulesOut Learnt κs i r = (m : Lasts T κs i) → ¬ (Learnt κs i r (at_exit T κs i m))

@@ -1,118 +1,147 @@
-// What is found of a table, as bits; how often each was found over all tables; and the report.
-// A finding's number is its place in the report, in which `#` stands for a count.
+// What is found of the tables: how often, over all of them, and the report.
 
-use std::io;
+use crate::answers::Answer;
+use crate::search::Best;
+use records::refusal::Refusal;
+use std::fmt;
 
-// A table, and from 1 on a table of 0 to 6 jobs.
-pub const TABLE: usize = 0;
-
-pub const SIZE: usize = 1;
-
-// What a planner of one order answered; for the free order these stand from FREE on, for the given order from GIVEN on.
-pub const PLAN: usize = 0;
-
-pub const NONE: usize = 1;
-
-pub const TIE: usize = 2;
-
-pub const AWAY: usize = 3;
-
-pub const DIFFERS: usize = 4;
-
-pub const FREE: usize = 8;
-
-pub const GIVEN: usize = 13;
-
-pub const ONLY_FREE: usize = 18;
-
-pub const LEAST_FOUND: usize = 19;
-
-pub const LEAST_NONE: usize = 20;
-
-pub const LEAST_DIFFERS: usize = 21;
-
-pub const ONE_BELOW: usize = 22;
-
-pub const AT_LEAST: usize = 23;
-
-// An error that looks right would show.
-pub const SOONER_CAUGHT: usize = 24;
-
-pub const SHORTEST_CAUGHT: usize = 25;
-
-pub const TIES_CAUGHT: usize = 26;
-
-pub const NONE_CAUGHT: usize = 27;
-
-// The bit of a finding, where it is so.
-pub fn mark(finding: usize, so: bool) -> u64 {
-    if so {
-        return 1 << (finding % 64);
-    }
-    0
+// How often a planner of one order answered what.
+#[derive(Clone, Copy, Default)]
+pub struct OrderCounts {
+    plans: u64,
+    none: u64,
+    // Plans with a tie to settle, and plans that send a job away.
+    ties: u64,
+    away: u64,
+    differences: u64,
 }
 
-// The counts with what was found of one table more; they stay below the number of tables, so that none wraps.
-pub fn counted(counts: [u64; 32], found: u64) -> [u64; 32] {
-    let mut sums = counts;
-    let mut k = 0;
-    while k < 32 {
-        sums[k] = sums[k].wrapping_add((found >> k) % 2);
-        k += 1;
-    }
-    sums
+#[derive(Clone, Copy, Default)]
+pub struct LeastCounts {
+    found: u64,
+    none: u64,
+    differences: u64,
+    // Where the tables' own deadlines lie.
+    one_below: u64,
+    at: u64,
 }
 
-// Prints a text with the counts in place of its `#`.
-fn print_text(rt: &impl Print, text: &[u8], counts: [u64; 32]) -> io::Result<()> {
-    let mut finding = 0;
-    let mut k = 0;
-    while k < text.len() {
-        let byte = [text[k]];
-        if byte[0] == b'#' {
-            print!(rt; "{}", counts[finding % 32])?;
-            finding += 1;
-        } else {
-            rt.write_all(&byte)?;
+// How many tables would catch a planner that is wrong on purpose.
+#[derive(Clone, Copy, Default)]
+pub struct CaughtCounts {
+    pub sooner_only: u64,
+    pub shortest_first: u64,
+    pub ties: u64,
+    pub none: u64,
+}
+
+#[derive(Clone, Copy, Default)]
+pub struct Report {
+    tables: u64,
+    // Tables of 0 to 6 jobs.
+    sizes: [u64; 7],
+    pub free: OrderCounts,
+    pub given: OrderCounts,
+    pub only_free: u64,
+    pub least: LeastCounts,
+    pub caught: CaughtCounts,
+}
+
+// One more, where it is so; there are far too few tables for a count to reach the top.
+pub fn count(total: &mut u64, so: bool) {
+    *total = total.saturating_add(u64::from(so));
+}
+
+impl OrderCounts {
+    // Counts an answer, beside the one that goes with the best choice.
+    pub fn add(&mut self, answer: &Answer, best: Option<Best>) {
+        count(&mut self.plans, answer.plan.is_ok());
+        count(&mut self.none, answer.plan == Err(Refusal::None));
+        count(&mut self.ties, best.is_some_and(|best| best.tied));
+        count(
+            &mut self.away,
+            best.is_some_and(|best| !best.tried.choice.is_empty()),
+        );
+        count(&mut self.differences, *answer != Answer::expected(best));
+    }
+
+    fn write<W: fmt::Write>(&self, f: &mut fmt::Formatter<W>, order: &str) -> fmt::Result {
+        writeln!(f, "{order} order: plans {}", self.plans)?;
+        writeln!(f, "{order} order: NONE {}", self.none)?;
+        writeln!(f, "{order} order: plans with a tie to settle {}", self.ties)?;
+        writeln!(f, "{order} order: plans that send a job away {}", self.away)?;
+        writeln!(f, "{order} order: differences {}", self.differences)
+    }
+}
+
+impl LeastCounts {
+    // Counts an answer, beside the least deadline that some choice meets and the table's own.
+    pub fn add(
+        &mut self,
+        answer: Result<u16, Refusal>,
+        least: Result<u16, Refusal>,
+        deadline: u16,
+    ) {
+        count(&mut self.found, answer.is_ok());
+        count(&mut self.none, answer == Err(Refusal::None));
+        count(&mut self.differences, answer != least);
+        count(
+            &mut self.one_below,
+            least.is_ok_and(|least| u32::from(deadline) + 1 == u32::from(least)),
+        );
+        count(&mut self.at, least == Ok(deadline));
+    }
+}
+
+impl Report {
+    // Counts a table of so many jobs.
+    pub fn add_table(&mut self, jobs: usize) {
+        count(&mut self.tables, true);
+        if let Some(tables) = self.sizes.get_mut(jobs) {
+            count(tables, true);
         }
-        k += 1;
     }
-    Ok(())
 }
 
-// Prints the report.
-pub fn print(rt: &impl Print, counts: [u64; 32]) -> io::Result<()> {
-    print_text(
-        rt,
-        b"tables #
-  of 0 jobs #
-  of 1 job #
-  of 2 jobs #
-  of 3 jobs #
-  of 4 jobs #
-  of 5 jobs #
-  of 6 jobs #
-free order: plans #
-free order: NONE #
-free order: plans with a tie to settle #
-free order: plans that send a job away #
-free order: differences #
-given order: plans #
-given order: NONE #
-given order: plans with a tie to settle #
-given order: plans that send a job away #
-given order: differences #
-a plan in free order and NONE in given order #
-least deadline: found #
-least deadline: NONE #
-least deadline: differences #
-deadline one below the least #
-deadline at the least #
-tables that catch sending away only where S + I < C: #
-tables that catch shortest return first: #
-tables that catch ties settled the other way: #
-tables that catch NONE to all: #
-",
-        counts,
-    )
+impl fmt::Display for Report {
+    fn fmt<W: fmt::Write>(&self, f: &mut fmt::Formatter<W>) -> fmt::Result {
+        writeln!(f, "tables {}", self.tables)?;
+        for (jobs, tables) in self.sizes.iter().enumerate() {
+            let plural = if jobs == 1 { "" } else { "s" };
+            writeln!(f, "  of {jobs} job{plural} {tables}")?;
+        }
+        self.free.write(f, "free")?;
+        self.given.write(f, "given")?;
+        writeln!(
+            f,
+            "a plan in free order and NONE in given order {}",
+            self.only_free
+        )?;
+        self.least.fmt(f)?;
+        self.caught.fmt(f)
+    }
+}
+
+impl fmt::Display for LeastCounts {
+    fn fmt<W: fmt::Write>(&self, f: &mut fmt::Formatter<W>) -> fmt::Result {
+        writeln!(f, "least deadline: found {}", self.found)?;
+        writeln!(f, "least deadline: NONE {}", self.none)?;
+        writeln!(f, "least deadline: differences {}", self.differences)?;
+        writeln!(f, "deadline one below the least {}", self.one_below)?;
+        writeln!(f, "deadline at the least {}", self.at)
+    }
+}
+
+impl fmt::Display for CaughtCounts {
+    fn fmt<W: fmt::Write>(&self, f: &mut fmt::Formatter<W>) -> fmt::Result {
+        let catch = "tables that catch";
+        writeln!(
+            f,
+            "{catch} sending away only where S + I < C: {}",
+            self.sooner_only
+        )?;
+        writeln!(f, "{catch} shortest return first: {}", self.shortest_first)?;
+        writeln!(f, "{catch} ties settled the other way: {}", self.ties)?;
+        writeln!(f, "{catch} NONE to all: {}", self.none)
+    }
 }

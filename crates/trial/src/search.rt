@@ -1,113 +1,113 @@
-// The search: for each choice the least last finish over all orders of the jobs, laid back to back from tick 0; or its last finish in one order.
-// Nothing here is sorted but a plan's own order, and no result is built from that of another choice.
-ghost use Rattle.std.specs.Prelude.{◌≡◌, ◌≤◌, min, max};
+// The search: all choices that a rule tries, each with its plan and when it is done; the best of them, and the least deadline.
+// Nothing is sorted but a plan's own order, and no result is built from that of another choice.
 
+use crate::answers::Answer;
+use crate::choices::Choice;
 use crate::jobs::Jobs;
-use crate::{jobs, orders};
+use crate::rules::Rule;
+use crate::steps::Steps;
+use records::refusal::Refusal;
+use std::cmp::Ordering;
+use table::Table;
 
-// What a planner goes by: the two orders, and for the free order two errors that look right.
+// A choice with its steps in the order of its plan, its busy total, and when it is done.
 #[derive(Clone, Copy)]
-pub enum Rule {
-    FreeOrder,
-    GivenOrder,
-    ShortestReturnFirst,
-    TiesTheOtherWay,
+pub struct Tried {
+    pub choice: Choice,
+    pub listed: Steps,
+    pub busy: u32,
+    pub finish: u32,
 }
 
-// No layout ends so late.
-pub const NEVER: u32 = 0xFFFF_FFFF;
-
-// The later of two times.
-pub fn later(a: u32, b: u32) -> u32
-    ensures { result ≡ max a b }
-{
-    if a < b { b } else { a }
+// The best choice, and whether another one has the same busy total.
+#[derive(Clone, Copy)]
+pub struct Best {
+    pub tried: Tried,
+    pub tied: bool,
 }
 
-// The earlier of two times.
-fn earlier(a: u32, b: u32) -> u32
-    ensures { result ≡ min a b }
-{
-    if a < b { a } else { b }
+// The choices of a table's jobs by their numbers; `None` stands for one that the rule does not try.
+#[derive(Clone, Copy)]
+pub struct Search<'a, R> {
+    pub jobs: &'a Jobs,
+    rule: R,
+    all: [Option<Tried>; Choice::COUNT],
 }
 
-// The last finish of the jobs laid back to back in an order, 0 for no jobs.
-pub fn last_finish(jobs: Jobs, choice: usize, order: usize) -> u32
-    requires { jobs.count ≤ 6 }
-{
-    let mut last = 0;
-    let mut end = 0;
-    let mut rest = order;
-    let mut k = 0;
-    while k < jobs.count {
-        let job = jobs::job_at(jobs, rest);
-        let away = jobs::has(choice, rest);
-        end += jobs::span(job, away);
-        last = later(last, end + jobs::wait(job, away));
-        rest = rest / 8;
-        k += 1;
+fn try_choice(jobs: &Jobs, choice: Choice, rule: &impl Rule) -> Option<Tried> {
+    let listed = Steps::of(jobs, choice, rule)?.listed(rule);
+    Some(Tried {
+        choice,
+        listed,
+        busy: listed.busy(),
+        finish: rule.finish(&listed),
+    })
+}
+
+impl<'a, R: Rule + Copy> Search<'a, R> {
+    // Tries all choices.
+    pub fn new(jobs: &'a Jobs, rule: R) -> Self {
+        let mut all = [None; Choice::COUNT];
+        let choices = 0..1u8 << jobs.as_slice().len();
+        for (tried, number) in all.iter_mut().zip(choices) {
+            *tried = try_choice(jobs, Choice::numbered(number), &rule);
+        }
+        Search { jobs, rule, all }
     }
-    last
-}
 
-// The least last finish of a choice over all orders.
-fn least_finish(jobs: Jobs, choice: usize) -> u32
-    requires { jobs.count ≤ 6 }
-{
-    let all = orders::orders(jobs.count);
-    let mut least = NEVER;
-    let mut k = 0;
-    while k < all {
-        let order = orders::order_of(k, jobs.count);
-        least = earlier(least, last_finish(jobs, choice, order));
-        k += 1;
+    // The same choices, of which the best goes by another rule.
+    pub fn under<S: Rule + Copy>(&self, rule: S) -> Search<'a, S> {
+        let jobs = self.jobs;
+        let all = self.all;
+        Search { jobs, rule, all }
     }
-    least
-}
 
-// The order in which the plan of a choice lists the jobs; with no job sent away that is the table's.
-pub fn listing(jobs: Jobs, choice: usize, rule: Rule) -> usize {
-    match rule {
-        Rule::GivenOrder => orders::plan_order(jobs, 0, true),
-        Rule::ShortestReturnFirst => orders::plan_order(jobs, choice, false),
-        _ => orders::plan_order(jobs, choice, true),
+    // When the first of the choices is done.
+    pub fn least_finish(&self) -> Option<u32> {
+        self.all.iter().flatten().map(|tried| tried.finish).min()
     }
-}
 
-// When a choice is done; never, if it sends a job away that may not leave.
-fn finish_of(jobs: Jobs, choice: usize, rule: Rule) -> u32
-    requires { jobs.count ≤ 6 }
-{
-    if !jobs::within(choice, jobs.either) {
-        return NEVER;
+    // The least deadline that some choice meets: at least 1, and none above the largest time.
+    pub fn least_deadline(&self) -> Result<u16, Refusal> {
+        self.least_finish()
+            .and_then(|least| u16::try_from(least).ok())
+            .filter(|least| *least <= Table::LARGEST_TIME)
+            .map(|least| least.max(1))
+            .ok_or(Refusal::None)
     }
-    match rule {
-        Rule::GivenOrder => last_finish(jobs, choice, listing(jobs, choice, rule)),
-        Rule::ShortestReturnFirst => last_finish(jobs, choice, listing(jobs, choice, rule)),
-        _ => least_finish(jobs, choice),
-    }
-}
 
-// When each choice is done: entry c is that of the choice c.
-pub fn finishes(jobs: Jobs, rule: Rule) -> [u32; 64]
-    requires { jobs.count ≤ 6 }
-{
-    let mut found = [NEVER; 64];
-    let mut choice = 0;
-    while choice < 64 {
-        found[choice] = finish_of(jobs, choice, rule);
-        choice += 1;
+    // The better of the best so far and one more choice.
+    fn better(&self, best: Best, next: Best) -> Best {
+        match next.tried.busy.cmp(&best.tried.busy) {
+            Ordering::Less => next,
+            Ordering::Greater => best,
+            Ordering::Equal => {
+                let wins = self
+                    .rule
+                    .wins(self.jobs, next.tried.choice, best.tried.choice);
+                Best {
+                    tried: if wins { next.tried } else { best.tried },
+                    tied: true,
+                }
+            }
+        }
     }
-    found
-}
 
-// The least of all choices' finishes.
-pub fn least_of(finishes: [u32; 64]) -> u32 {
-    let mut least = NEVER;
-    let mut choice = 0;
-    while choice < 64 {
-        least = earlier(least, finishes[choice]);
-        choice += 1;
+    // The best of the choices that are done by the deadline.
+    pub fn best(&self, deadline: u16) -> Option<Best> {
+        self.all
+            .iter()
+            .flatten()
+            .filter(|tried| tried.finish <= u32::from(deadline))
+            .map(|tried| Best {
+                tried: *tried,
+                tied: false,
+            })
+            .reduce(|best, next| self.better(best, next))
     }
-    least
+
+    // The answer that goes with the best choice.
+    pub fn answer(&self, deadline: u16) -> Answer {
+        Answer::expected(self.best(deadline))
+    }
 }

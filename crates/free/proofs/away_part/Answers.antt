@@ -1,5 +1,5 @@
 -- `free::away_part` meets its contract; what its loop keeps stands in Invariants.antt. Assumes nothing.
-use Rattle.std.proofs.Common.{rules, ◌≡◌, inl, inr}
+use Rattle.std.proofs.Common.{rules, ◌≡◌, true, false, refl, inl, inr}
 use Rattle.std.proofs.lemmas.List.{length_push}
 use Rattle.choice.proofs.Held.{ready_few, held_positions, held_jobs}
 use Rattle.free.proofs.Parts.{away_start, away_here, away_room, away_more, away_end}
@@ -24,17 +24,23 @@ bounds-flags-position c =
     let s = c.in-Some.ensures.steps in
     away_here r.js r.sound c.args.flags.now _ _ _ _ (c.loop-position.invariant r.js r.held r.sound) _ _ _ _ s.0 s.1
 
-pub with_if-draft-requires : goal.with_if-draft-requires
-with_if-draft-requires c =
+pub push-requires : goal.push-requires
+push-requires c =
     let r = c.requires in
     let s = c.in-Some.ensures.steps in
-    away_room r.js r.sound c.args.flags.now _ _ _ _ (c.loop-position.invariant r.js r.held r.sound) _ _ _ _ s.0 s.1
+    away_room r.js r.sound c.args.flags.now _ _ _ _ (c.loop-position.invariant r.js r.held r.sound) _ _ _ _ s.0 s.1 c.if-flags-position.true
+
+pub loop-position-preserved-then-flags-position : goal.loop-position-preserved-then-flags-position
+loop-position-preserved-then-flags-position c js held sound =
+    let s = c.in-Some.ensures.steps in
+    rw length_push
+    (away_more js sound c.args.flags.now _ _ _ _ (c.loop-position.invariant js held sound) _ _ _ _ s.0 s.1 true c.if-flags-position.true _ c.push.ensures)
 
 pub loop-position-preserved : goal.loop-position-preserved
 loop-position-preserved c js held sound =
     let s = c.in-Some.ensures.steps in
     rw length_push
-    (away_more js sound c.args.flags.now _ _ _ _ (c.loop-position.invariant js held sound) _ _ _ _ s.0 s.1 _ c.with_if-draft.ensures)
+    (away_more js sound c.args.flags.now _ _ _ _ (c.loop-position.invariant js held sound) _ _ _ _ s.0 s.1 false c.if-flags-position.false _ refl)
 
 pub returns : goal.returns
 returns c js held sound =

@@ -1,5 +1,5 @@
 -- `free::here_part` meets its contract; what its loop keeps stands in Invariants.antt. Assumes nothing.
-use Rattle.std.proofs.Common.{rules, ◌≡◌, ◌≤◌, length, inl, inr, arith}
+use Rattle.std.proofs.Common.{rules, ◌≡◌, ◌≤◌, length, true, false, not, refl, ap, inl, inr, arith}
 use Rattle.std.proofs.lemmas.List.{length_push}
 use Rattle.free.proofs.Parts.{here_start, here_room, here_more, here_end}
 use Rattle.free.proofs.here_part.Goals as goal
@@ -10,17 +10,23 @@ loop-job-init c before held =
     let flags : c.into_iter-job-iterator.result.b.rest.now ≡ c.args.flags.now = search rules in
     rw (jobs, flags) (here_start _ _ _ c.requires.1 before held)
 
-pub with_if-draft-requires : goal.with_if-draft-requires
-with_if-draft-requires c =
+pub push-requires : goal.push-requires
+push-requires c =
     let room = c.requires.1 in
     let s = c.in-Some.ensures.steps in
-    here_room _ _ _ room room.before room.held _ _ _ _ (c.loop-job.invariant room.before room.held) _ _ _ _ s.0 s.1
+    here_room _ _ _ room room.before room.held _ _ _ _ (c.loop-job.invariant room.before room.held) _ _ _ _ s.0 s.1 (ap not c.if-not-away.true)
+
+pub loop-job-preserved-then-not-away : goal.loop-job-preserved-then-not-away
+loop-job-preserved-then-not-away c before held =
+    let s = c.in-Some.ensures.steps in
+    rw length_push
+    (here_more _ _ _ c.requires.1 before held _ _ _ _ (c.loop-job.invariant before held) _ _ _ _ s.0 s.1 true (ap not c.if-not-away.true) _ c.push.ensures)
 
 pub loop-job-preserved : goal.loop-job-preserved
 loop-job-preserved c before held =
     let s = c.in-Some.ensures.steps in
     rw length_push
-    (here_more _ _ _ c.requires.1 before held _ _ _ _ (c.loop-job.invariant before held) _ _ _ _ s.0 s.1 _ c.with_if-draft.ensures)
+    (here_more _ _ _ c.requires.1 before held _ _ _ _ (c.loop-job.invariant before held) _ _ _ _ s.0 s.1 false (ap not c.if-not-away.false) _ refl)
 
 pub returns : goal.returns
 returns c before room held =

@@ -3,7 +3,8 @@ use mathlib.Core.Path.{sym, ◌∙◌}
 use native.Mathlib.Omega.{arith}
 use borrow.Author.Rules.{rules}
 use Rattle.frame_record.proofs.Marks.{going, gone, beyond, position_again, id_again, badly, onward}
-use Rattle.frame_record.proofs.Frame.positions_ok.Goals.{then-self-position-via-then-self-position, then-self-position-via-else-self-position+then-positions-position}
+use Rattle.frame_record.proofs.Frame.positions_ok.Goals.{then-self-position-via-then-self-position}
+use Rattle.frame_record.proofs.Frame.positions_ok.Goals.{then-self-position-via-else-self-position+then-positions-position}
 use Rattle.frame_record.proofs.Frame.positions_ok.Goals.{then-ids-id-via-then-ids-id, then-ids-id-via-else-ids-id+then-not-entry_ok}
 use Rattle.frame_record.proofs.Frame.positions_ok.Goals as goal
 

@@ -1,9 +1,0 @@
--- `trial::bytes::same` meets its contract: k runs over the area. Assumes nothing.
-use Rattle.std.proofs.Common.{◌-◌, ◌≤◌}
-use Rattle.trial.proofs.bytes.same.Given as goal
-
-abbrev pub invariant-loop-k : goal.invariant-loop-k
-invariant-loop-k l = l.k ≤ 72
-
-abbrev pub decreases-loop-k : goal.decreases-loop-k
-decreases-loop-k l = 72 - l.k

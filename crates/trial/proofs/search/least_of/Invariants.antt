@@ -1,9 +1,0 @@
--- `trial::search::least_of` meets its contract: the choice runs up to 64. Assumes nothing.
-use Rattle.std.proofs.Common.{◌-◌, ◌≤◌}
-use Rattle.trial.proofs.search.least_of.Given as goal
-
-abbrev pub invariant-loop-choice : goal.invariant-loop-choice
-invariant-loop-choice l = l.choice ≤ 64
-
-abbrev pub decreases-loop-choice : goal.decreases-loop-choice
-decreases-loop-choice l = 64 - l.choice
