@@ -14,6 +14,7 @@ pub fn fill<R: Read>(from: &mut R, area: &mut [u8]) -> io::Result<usize>
     ensures ended { IfOk result (λ n. n < length area.new → IsAtEnd (R.remaining from.new)) }
 {
     let mut n = 0;
+    // A read puts in as many bytes as it likes, so n counts them and is no index.
     while n < area.len() {
         let more = from.read(&mut area[n..])?;
         if more == 0 {

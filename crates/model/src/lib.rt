@@ -7,6 +7,7 @@ ghost use Rattle.model.specs.Timetable.{is_either, setup_time, return_time, span
 ghost use Rattle.model.specs.Laying.{chosen, laid_with, most_busy};
 
 // Whether a job may be sent away: a here-only job has no setup and no return time, an either job has both.
+// The two kinds have the document's names; an Option of two times would leave the reader to guess which is which.
 #[derive(Clone, Copy)]
 pub enum Sending {
     HereOnly,

@@ -1,5 +1,6 @@
 // Words and numbers written into an area that the caller lends, at a place of it, and numbers of two and four bytes read from a place.
-// What is written is told by `Wrote` of specs/Writing.antt, and the rest of the area is left.
+// What is written is told by `Wrote` of specs/Writing.antt, and the rest of the area is left. Area and place stay two parameters: a cursor that borrows
+// the area would have to tell of both parts what `Wrote` tells, at every call.
 #![tactic(auto)]
 
 ghost use Rattle.std.specs.Prelude.{◌≡◌, ◌+◌, ◌<◌, ◌≤◌, length};
@@ -18,7 +19,8 @@ pub fn put(out: &mut [u8], at: usize, word: &[u8]) -> usize
     end
 }
 
-// Writes `n` in decimal at a place of `out`, without leading zeros, and returns the place after it.
+// Writes `n` in decimal at a place of `out`, without leading zeros, and returns the place after it. By hand: no formatter says which bytes it leaves
+// at a place of a lent area.
 pub fn put_number(out: &mut [u8], at: usize, n: usize) -> usize
     requires { at + length (decimal n) ≤ length out.old }
     ensures { Wrote out.old at (decimal n) out.new result }
@@ -32,7 +34,7 @@ pub fn put_number(out: &mut [u8], at: usize, n: usize) -> usize
     end + 1
 }
 
-// The two-byte number at a place, low byte first.
+// The two-byte number at a place, low byte first. Two widths, two functions: each is one call of the width's own conversion.
 pub fn two_at(s: &[u8], at: usize) -> u16
     requires { at + 2 ≤ length s.now }
     ensures { result ≡ two_at s.now at }

@@ -2,7 +2,8 @@
 // `number` is 0 for an accepted call, else the refusal's number; a field that an answer does not have is 0.
 #![tactic(auto)]
 
-ghost use Rattle.std.specs.Prelude.{◌≡◌};
+ghost use Rattle.std.specs.Prelude.{◌≡◌, unwrap_or};
+ghost use Rattle.records.specs.Refusals.{refusal_says, said_by};
 ghost use Rattle.planner.specs.Answers.{Planned, Least, FreeAnswer, GivenAnswer, LeastAnswer};
 ghost use Rattle.judge.specs.Check.{check_plan};
 ghost use Rattle.panel.specs.Numbers.{planned_numbers, least_numbers, checked_numbers};
@@ -13,7 +14,7 @@ use records::refusal;
 use records::refusal::Refusal;
 
 #[repr(C)]
-#[derive(Clone, Copy)]
+#[derive(Clone, Copy, Default)]
 pub struct PlannedNumbers {
     pub number: u64,
     pub place: u64,
@@ -23,7 +24,7 @@ pub struct PlannedNumbers {
 }
 
 #[repr(C)]
-#[derive(Clone, Copy)]
+#[derive(Clone, Copy, Default)]
 pub struct LeastNumbers {
     pub number: u64,
     pub place: u64,
@@ -31,12 +32,20 @@ pub struct LeastNumbers {
 }
 
 #[repr(C)]
-#[derive(Clone, Copy)]
+#[derive(Clone, Copy, Default)]
 pub struct CheckedNumbers {
     pub number: u64,
     pub place: u64,
     pub last: u64,
     pub busy: u64,
+}
+
+// A refusal's number, and its place or 0.
+fn number_and_place(f: Refusal) -> (u64, u64)
+    ensures { result ≡ ((said_by (refusal_says f)).number, unwrap_or (said_by (refusal_says f)).place 0) }
+{
+    let said = refusal::numbers_of(f);
+    (said.number as u64, said.place.unwrap_or(0) as u64)
 }
 
 impl From<Result<Written, Refusal>> for PlannedNumbers {
@@ -45,20 +54,17 @@ impl From<Result<Written, Refusal>> for PlannedNumbers {
     fn from(answer: Result<Written, Refusal>) -> PlannedNumbers {
         match answer {
             Ok(plan) => PlannedNumbers {
-                number: 0,
-                place: 0,
                 length: plan.bytes as u64,
                 busy: u64::from(plan.busy),
                 last: u64::from(plan.last),
+                ..PlannedNumbers::default()
             },
             Err(f) => {
-                let why = refusal::numbers_of(f);
+                let (number, place) = number_and_place(f);
                 PlannedNumbers {
-                    number: why.number as u64,
-                    place: why.place.unwrap_or(0) as u64,
-                    length: 0,
-                    busy: 0,
-                    last: 0,
+                    number,
+                    place,
+                    ..PlannedNumbers::default()
                 }
             }
         }
@@ -71,16 +77,15 @@ impl From<Result<u16, Refusal>> for LeastNumbers {
     fn from(answer: Result<u16, Refusal>) -> LeastNumbers {
         match answer {
             Ok(d) => LeastNumbers {
-                number: 0,
-                place: 0,
                 deadline: u64::from(d),
+                ..LeastNumbers::default()
             },
             Err(f) => {
-                let why = refusal::numbers_of(f);
+                let (number, place) = number_and_place(f);
                 LeastNumbers {
-                    number: why.number as u64,
-                    place: why.place.unwrap_or(0) as u64,
-                    deadline: 0,
+                    number,
+                    place,
+                    ..LeastNumbers::default()
                 }
             }
         }
@@ -93,18 +98,16 @@ impl From<Result<Passed, Refusal>> for CheckedNumbers {
     fn from(answer: Result<Passed, Refusal>) -> CheckedNumbers {
         match answer {
             Ok(run) => CheckedNumbers {
-                number: 0,
-                place: 0,
                 last: u64::from(run.last),
                 busy: u64::from(run.busy),
+                ..CheckedNumbers::default()
             },
             Err(f) => {
-                let why = refusal::numbers_of(f);
+                let (number, place) = number_and_place(f);
                 CheckedNumbers {
-                    number: why.number as u64,
-                    place: why.place.unwrap_or(0) as u64,
-                    last: 0,
-                    busy: 0,
+                    number,
+                    place,
+                    ..CheckedNumbers::default()
                 }
             }
         }

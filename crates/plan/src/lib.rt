@@ -20,7 +20,7 @@ pub struct Step {
     pub away: bool,
 }
 
-// A plan that is being made: the first `count` steps stand.
+// A plan that is being made: the first `count` steps stand, in an array, since memory is fixed.
 #[derive(Clone, Copy)]
 pub struct Plan {
     pub count: usize,

@@ -57,7 +57,7 @@ pub struct Said {
     pub place: Option<usize>,
 }
 
-// The numbers, stated once for every program that prints or returns them.
+// The numbers, stated once for every program that prints or returns them: the document's table in full, and not the order of the cases.
 pub fn numbers_of(f: Refusal) -> Said
     ensures { result ≡ said_by (refusal_says f) }
 {

@@ -11,6 +11,8 @@ use records::record;
 use records::record::Record;
 use records::refusal::{Place, Refusal};
 
+// Memory is fixed, so the jobs are an array with its count, as a plan's steps are. The count's bound stands in the contracts: in the type, every
+// definition that makes a table of a list would carry a proof of it.
 #[derive(Clone, Copy)]
 pub struct Table {
     pub deadline: u16,
@@ -44,7 +46,7 @@ impl Table {
         }
     }
 
-    // This and the next three tie the constants to their names in specs/Limits.antt.
+    // This and the next three tie the constants to their names in specs/Limits.antt, each by a clause of its own.
     pub fn most_jobs() -> usize
         ensures { result ≡ most_jobs }
     {
