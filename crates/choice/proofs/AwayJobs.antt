@@ -2,19 +2,17 @@
 -- Assumes nothing.
 use mathlib.Core.Path.{◌≡◌, refl, sym, ap, ◌∙◌}
 use mathlib.Core.Bool.{Bool, not}
-use mathlib.Core.List.{List, [], ◌∷◌, ◌++◌, map}
-use Prim.Native.Nat.{ℕ, zero, suc, ◌≤◌, ◌<◌}
+use mathlib.Core.List.{List, [], ◌∷◌, map}
+use Prim.Native.Nat.{ℕ, zero, suc, ◌≤◌}
 use native.Mathlib.Omega.{arith}
-use lib.ListN.{length, get_or, replicate, length-map, length-append}
+use lib.ListN.{length, get_or, length-map, length-append}
 use Rattle.model.specs.declared.Job.{Job}
 use Rattle.model.specs.Lists.{filter, falling}
 use Rattle.model.specs.Timetable.{is_either, return_time}
 use Rattle.model.specs.Recurrence.{jobs_in_away_order}
 use Rattle.model.specs.Positions.{count_from, no_job, can_go_at, positions}
-use Rattle.model.proofs.Lists.{all_at, padded}
 use Rattle.model.proofs.Permutations.{length_perm, perm_falling, perm_split}
 use Rattle.model.proofs.Sorts.{map_filter, map_falling}
-use Rattle.model.proofs.Positions.{positions_below}
 use Rattle.choice.specs.Choices.{jobs_at}
 
 module _ {A : Type 0} where
@@ -30,7 +28,12 @@ module _ {A : Type 0} where
   -- a sort of what passes a test is no longer than the whole
   sorted_few : (key : A → ℕ) (f : A → Bool) (xs : List A) → length (falling key (filter f xs)) ≤ length xs
   sorted_few key f xs =
-      omega (arith, length_perm (perm_falling key (filter f xs)), length_perm (perm_split f xs), length-append (filter f xs) (filter (λ (x : A). not (f x)) xs))
+      omega (
+        arith,
+        length_perm (perm_falling key (filter f xs)),
+        length_perm (perm_split f xs),
+        length-append (filter f xs) (filter (λ (x : A). not (f x)) xs),
+      )
 
 -- the jobs in away order are those at the positions in away order
 pub order_jobs : (js : List Job) → jobs_in_away_order js ≡ jobs_at js (positions js)
@@ -47,7 +50,3 @@ as_many js = ap length (order_jobs js) ∙ length-map (positions js) (λ (i : �
 
 pub positions_few : (js : List Job) → length (positions js) ≤ length js
 positions_few js = omega (arith, as_many js, sorted_few return_time is_either js)
-
--- a position that is held is one of the table
-pub position_below : (js : List Job) (n k : ℕ) → k < length (positions js) → get_or (positions js ++ replicate n 0) k 0 < length js
-position_below js n k h = rw padded (all_at (λ (i : ℕ). i < length js) (positions js) 0 (positions_below js) k h)

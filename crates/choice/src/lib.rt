@@ -15,6 +15,7 @@ use order::AwayOrder;
 use table::Table;
 
 // The either jobs with their positions in the table, in away order, and the local times of the here-only jobs in all.
+// That it is of a table's jobs the contracts ask by `Ready`, and no ghost field does: `prepared_of` has to be one of these for any jobs.
 #[derive(Clone, Copy)]
 pub struct Prepared {
     pub order: AwayOrder,

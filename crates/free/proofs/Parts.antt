@@ -195,8 +195,8 @@ module _ (jobs : List Job) (flags : List Bool) (front : Draft) (room : HereRoom 
         done (inl e) = omega (arith, here_many, length-drop k jobs, ap length h.jobs_left)
         done (inr e) = omega (arith, here_many, length-drop k flags, ap length h.flags_left)
 
-    module _ (draft : Draft) (left : List Job) (fs : List Bool) (k : ℕ) (h : Here jobs flags before draft left fs k) (j : Job) (js : List Job) (w : Bool) (ws : List Bool)
-        (p : left ≡ j ∷ js) (q : fs ≡ w ∷ ws) where
+    module _ (draft : Draft) (left : List Job) (fs : List Bool) (k : ℕ) (h : Here jobs flags before draft left fs k) (j : Job) (js : List Job) (w : Bool)
+        (ws : List Bool) (p : left ≡ j ∷ js) (q : fs ≡ w ∷ ws) where
       more : k < length jobs
       more = left_more jobs left js j k h.jobs_left p
 

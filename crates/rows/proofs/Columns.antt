@@ -36,7 +36,8 @@ changed_more a b a' b' t v new xs xs' c w h k l m old e =
     else i (inr p) = get_or-set_other xs' t i v 0 (omega arith) ∙ c.outside i (inr (omega arith))
 
 -- the column after the range
-pub changed_up : (a t v : ℕ) (new : ℕ → ℕ) (xs xs' : List ℕ) → Changed a t new xs xs' → t < columns → a ≤ t → v ≡ new t → Changed a (t + 1) new xs (set xs' t v)
+pub changed_up : (a t v : ℕ) (new : ℕ → ℕ) (xs xs' : List ℕ) → Changed a t new xs xs' → t < columns → a ≤ t → v ≡ new t
+    → Changed a (t + 1) new xs (set xs' t v)
 changed_up a t v new xs xs' c w h e =
     changed_more a t a (t + 1) t v new xs xs' c w h (omega arith) (omega arith) (omega arith) (λ i p q s. (p, omega arith)) e
 

@@ -25,5 +25,6 @@ jobs_at-requires-clause-known c =
 pub returns : goal.returns
 returns c =
     let js = (job_table c.args.t.now).jobs in
-    let jobs : c.jobs_at.result ≡ jobs_in_away_order js ++ replicate (most_jobs - length (jobs_in_away_order js)) no_job = rw (placed (goal.at.returns c).After-as_slice, ← order_jobs js, ← as_many js) at c.jobs_at.ensures in
+    let jobs : c.jobs_at.result ≡ jobs_in_away_order js ++ replicate (most_jobs - length (jobs_in_away_order js)) no_job =
+    rw (placed (goal.at.returns c).After-as_slice, ← order_jobs js, ← as_many js) at c.jobs_at.ensures in
     λ k. record { order = c.away_order-order.ensures k; jobs = jobs k; base = c.base_of.ensures k }

@@ -20,8 +20,8 @@ overflow_add-next-in-loop-t c = omega (arith, c.requires.4 c.loop-t.t (omega ari
 
 pub loop-t-preserved : goal.loop-t-preserved
 loop-t-preserved c =
-    let better : Better c.loop-t.found (record { total = get_or c.args.totals.now c.loop-t.t 0 + c.loop-t.t + c.args.base; mask = get_or c.args.masks.now c.loop-t.t 0 })
-    c.if-next-found.found =
+    let total = get_or c.args.totals.now c.loop-t.t 0 + c.loop-t.t + c.args.base in
+    let better : Better c.loop-t.found (record { total = total; mask = get_or c.args.masks.now c.loop-t.t 0 }) c.if-next-found.found =
     elim c.if-next-found.branch [
       | then-next-found w ↦ better_least _ _ _ (w.found-is ∙ w.min-found.ensures)
       | else-next-found w ↦ inr (w.found-is, inl w.if-next-found.false)

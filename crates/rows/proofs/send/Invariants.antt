@@ -5,4 +5,5 @@ use Rattle.rows.specs.Columns.{Sent}
 use Rattle.rows.proofs.send.Given as goal
 
 abbrev pub invariant-loop-t : goal.invariant-loop-t
-invariant-loop-t l = (l.room.setup ≤ l.t) × (l.t ≤ l.room.end) × Sent l.t l.room.end l.room.setup l.local l.bit l.initial.totals l.initial.masks l.totals l.masks
+invariant-loop-t l =
+    (l.room.setup ≤ l.t) × (l.t ≤ l.room.end) × Sent l.t l.room.end l.room.setup l.local l.bit l.initial.totals l.initial.masks l.totals l.masks
