@@ -2,7 +2,8 @@
 """Holds the documents to the code: python3 tools/check_docs.py
 
 - Every public function stands in docs/FUNCTIONS.md by crate, type and name, has its line in crate `settled` over its own contract (but for OPEN), and
-  is listed exactly where it has a `requires` or no `ensures`. What the archive exports has the contracts of the library behind it.
+  is listed exactly where it has a `requires` or no `ensures`; so is every method of a trait, with the types that have it. What the archive exports has
+  the contracts of the library behind it.
 - Every theorem, definition and function that a document names is declared in the file that it names; every edit and every link is there, and a
   formula that is printed with file and line reads so there.
 - The definitions of docs/TRUSTED.md, with their lines, are exactly what the statements named there rest on.
@@ -72,6 +73,15 @@ def check_functions(tree):
     compare(f'{FUNCTIONS}, no ensures', {(f.path, f.key.split('.')[-1]) for f in tree.functions if ' ensures ' not in f.contract}, silent)
 
 
+def check_traits(tree):
+    """The methods of traits, each with the types that have it."""
+    methods = {f.law: path_of(f) for f in tree.functions if f.declares}
+    wanted = {f'{methods.get(f.law, "::".join(f.law))} for {path_of(f).rsplit("::", 1)[0].removesuffix(f.trait)}'
+              for f in tree.functions if f.trait and not f.declares and not f.program}
+    said = [[re.findall(r'`([\w:]+)`', cell) for cell in row[:2]] for row in cells(section(FUNCTIONS, 'Methods of traits'))]
+    compare(f'{FUNCTIONS}, methods of traits', wanted, {f'{method} for {of}' for names, types in said for method in names for of in types})
+
+
 def check_exports(tree):
     """The archive's functions are those of crate panel: under their names, with their clauses."""
     said = {crate: {f.key.split('.')[-1]: f.contract.replace('extern "C" ', '') for f in tree.functions if f.crate == crate and f.public}
@@ -96,7 +106,7 @@ def declares(name, sources):
     """`pub NAME :`, a public type or a public function; inside a type, a field."""
     word = re.escape(name)
     antt = rf'^\s*(?:(?:abbrev|unfoldable) )?pub (?:(?:data|record) )?{word}(?: |$)'
-    rattle = rf'^\s*pub (?:extern "C" )?(?:fn|struct|enum|const) {word}\b'
+    rattle = rf'^\s*pub (?:extern "C" )?(?:fn|struct|enum|trait|const) {word}\b'
     return re.search(antt, sources, re.M) or re.search(rattle, sources, re.M)
 
 
@@ -176,6 +186,7 @@ def check_counts(heading, lines):
 def main():
     tree = Tree(TOP)
     check_functions(tree)
+    check_traits(tree)
     check_exports(tree)
     check_signatures(tree)
     check_wrong_answers(tree)
