@@ -7,7 +7,7 @@
 - Every theorem, definition and function that a document names is declared in the file that it names; every edit and every link is there, and a
   formula that is printed with file and line reads so there.
 - The definitions of docs/TRUSTED.md, with their lines, are exactly what the statements named there rest on.
-- A refusal's number, word and sentence are the same wherever they stand.
+- A refusal's number, word and sentence are the same wherever they stand. The sheet counts the edits and crates that there are.
 """
 import glob
 import os
@@ -23,6 +23,7 @@ TOP = os.path.abspath(os.path.join(os.path.dirname(os.path.abspath(__file__)), '
 DOCUMENTS = sorted(glob.glob('*.md', root_dir=TOP) + glob.glob('*/README.md', root_dir=TOP) + glob.glob('docs/**/*.md', root_dir=TOP, recursive=True))
 FUNCTIONS = 'docs/FUNCTIONS.md'
 FORMS = 'docs/DECISIONS.md'
+SHEET = 'docs/ACCEPTANCE.md'
 ENTRIES = ['records', 'table', 'plan', 'planner', 'judge', 'frame_record', 'frame_begin', 'frame_reports', 'frame_calls', 'frame_lent', 'listing', 'frame_log',
            'replaying', 'panel', 'panel_c', 'input']
 # what a reader gives is not its caller's, so no contract settles it
@@ -152,6 +153,15 @@ def check_edits(document):
                 troubles.append(f'{document}: there is no edit {crate}/must-fail/{name}')
 
 
+def check_counts_of_sheet():
+    """What the sheet expects of `rt ci`: so many edits refused, and these and the crates passed."""
+    edits = len(glob.glob('crates/*/must-fail/*.edit', root_dir=TOP))
+    crates = len(re.findall(r'^\w+(?: \w+)?:', text('crates.txt'), re.M))
+    for words, wanted in [('must-fail edits: {} refused', edits), ('{} passed, 0 failed', edits + crates)]:
+        said = re.findall(words.format(r'(\d+)'), text(SHEET))
+        troubles.extend(f'{SHEET}: "{words.format(n)}" should say {wanted}' for n in said if int(n) != wanted)
+
+
 def check_links(document):
     for link in re.findall(r'\]\(([^)#]+)(?:#[^)]*)?\)', text(document)):
         if not link.startswith('http') and not os.path.exists(os.path.join(TOP, os.path.dirname(document), link)):
@@ -192,6 +202,7 @@ def main():
     check_wrong_answers(tree)
     check_trusted(tree)
     troubles.extend(refusal_troubles(TOP))
+    check_counts_of_sheet()
     for document in DOCUMENTS:
         check_names(document, tree)
         check_paths(document)
