@@ -2,11 +2,12 @@
 """Holds the documents to the code: python3 tools/check_docs.py
 
 - Every public function stands in docs/FUNCTIONS.md by crate, type and name, has its line in crate `settled` over its own contract (but for OPEN), and
-  is listed exactly where it has a `requires` or no `ensures`. What the archive exports has the contracts of the library behind it.
+  is listed exactly where it has a `requires` or no `ensures`; so is every method of a trait, with the types that have it. What the archive exports has
+  the contracts of the library behind it.
 - Every theorem, definition and function that a document names is declared in the file that it names; every edit and every link is there, and a
   formula that is printed with file and line reads so there.
 - The definitions of docs/TRUSTED.md, with their lines, are exactly what the statements named there rest on.
-- A refusal's number, word and sentence are the same wherever they stand.
+- A refusal's number, word and sentence are the same wherever they stand. The sheet counts the edits and crates that there are.
 """
 import glob
 import os
@@ -22,6 +23,7 @@ TOP = os.path.abspath(os.path.join(os.path.dirname(os.path.abspath(__file__)), '
 DOCUMENTS = sorted(glob.glob('*.md', root_dir=TOP) + glob.glob('*/README.md', root_dir=TOP) + glob.glob('docs/**/*.md', root_dir=TOP, recursive=True))
 FUNCTIONS = 'docs/FUNCTIONS.md'
 FORMS = 'docs/DECISIONS.md'
+SHEET = 'docs/ACCEPTANCE.md'
 ENTRIES = ['records', 'table', 'plan', 'planner', 'judge', 'frame_record', 'frame_begin', 'frame_reports', 'frame_calls', 'frame_lent', 'listing', 'frame_log',
            'replaying', 'panel', 'panel_c', 'input']
 # what a reader gives is not its caller's, so no contract settles it
@@ -72,6 +74,15 @@ def check_functions(tree):
     compare(f'{FUNCTIONS}, no ensures', {(f.path, f.key.split('.')[-1]) for f in tree.functions if ' ensures ' not in f.contract}, silent)
 
 
+def check_traits(tree):
+    """The methods of traits, each with the types that have it."""
+    methods = {f.law: path_of(f) for f in tree.functions if f.declares}
+    wanted = {f'{methods.get(f.law, "::".join(f.law))} for {path_of(f).rsplit("::", 1)[0].removesuffix(f.trait)}'
+              for f in tree.functions if f.trait and not f.declares and not f.program}
+    said = [[re.findall(r'`([\w:]+)`', cell) for cell in row[:2]] for row in cells(section(FUNCTIONS, 'Methods of traits'))]
+    compare(f'{FUNCTIONS}, methods of traits', wanted, {f'{method} for {of}' for names, types in said for method in names for of in types})
+
+
 def check_exports(tree):
     """The archive's functions are those of crate panel: under their names, with their clauses."""
     said = {crate: {f.key.split('.')[-1]: f.contract.replace('extern "C" ', '') for f in tree.functions if f.crate == crate and f.public}
@@ -96,7 +107,7 @@ def declares(name, sources):
     """`pub NAME :`, a public type or a public function; inside a type, a field."""
     word = re.escape(name)
     antt = rf'^\s*(?:(?:abbrev|unfoldable) )?pub (?:(?:data|record) )?{word}(?: |$)'
-    rattle = rf'^\s*pub (?:extern "C" )?(?:fn|struct|enum|const) {word}\b'
+    rattle = rf'^\s*pub (?:extern "C" )?(?:fn|struct|enum|trait|const) {word}\b'
     return re.search(antt, sources, re.M) or re.search(rattle, sources, re.M)
 
 
@@ -142,6 +153,15 @@ def check_edits(document):
                 troubles.append(f'{document}: there is no edit {crate}/must-fail/{name}')
 
 
+def check_counts_of_sheet():
+    """What the sheet expects of `rt ci`: so many edits refused, and these and the crates passed."""
+    edits = len(glob.glob('crates/*/must-fail/*.edit', root_dir=TOP))
+    crates = len(re.findall(r'^\w+(?: \w+)?:', text('crates.txt'), re.M))
+    for words, wanted in [('must-fail edits: {} refused', edits), ('{} passed, 0 failed', edits + crates)]:
+        said = re.findall(words.format(r'(\d+)'), text(SHEET))
+        troubles.extend(f'{SHEET}: "{words.format(n)}" should say {wanted}' for n in said if int(n) != wanted)
+
+
 def check_links(document):
     for link in re.findall(r'\]\(([^)#]+)(?:#[^)]*)?\)', text(document)):
         if not link.startswith('http') and not os.path.exists(os.path.join(TOP, os.path.dirname(document), link)):
@@ -176,11 +196,13 @@ def check_counts(heading, lines):
 def main():
     tree = Tree(TOP)
     check_functions(tree)
+    check_traits(tree)
     check_exports(tree)
     check_signatures(tree)
     check_wrong_answers(tree)
     check_trusted(tree)
     troubles.extend(refusal_troubles(TOP))
+    check_counts_of_sheet()
     for document in DOCUMENTS:
         check_names(document, tree)
         check_paths(document)

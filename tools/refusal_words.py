@@ -16,8 +16,9 @@ def rules(text):
 
 
 def arms(text):
-    """crates/records/src/refusal.rt: `Refusal::Short(p) => at_place(1, p)`."""
-    return {int(n): (word(v), None) for v, n in re.findall(r'Refusal::(\w+)(?:\(p\))? => (?:at|no)_place\((\d+)', text)}
+    """crates/records/src/refusal.rt: `Refusal::Short(p) => (1, Some(p.at))`, and `Refusal::None => (7, None)` where there is no place."""
+    found = re.findall(r'Refusal::(\w+)(?:\(p\) => \((\d+), Some\(p\.at\)\)| => \((\d+), None\))', text)
+    return {int(placed or alone): (word(v), None) for v, placed, alone in found}
 
 
 def clauses(text):

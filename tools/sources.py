@@ -15,7 +15,8 @@ NOT_NAMES = {'use', 'pub', 'mod', 'module', 'unfolding', 'where', 'constructor'}
 
 @dataclass
 class Declaration:
-    """A definition or a theorem: `statement` is its type (with the parameters of the sections that it stands in), `text` all of it."""
+    """A definition or a theorem: `statement` is its type (with the parameters of the sections that it stands in), `text` all of it, `cited` all of it but
+    what its clauses bind."""
     crate: str
     path: str
     name: str
@@ -23,17 +24,26 @@ class Declaration:
     statement: str
     text: str
     lines: int
+    cited: str
 
 
 @dataclass
 class Function:
-    """A function of a .rt file, by the path under which the generated modules have it: crate.module.Type.name."""
+    """A function of a .rt file, by the path under which the generated modules have it: crate.module.Type.name, and crate.module.TypeTrait.name for a
+    type's method of a trait. `declares`: it stands in the trait itself; `ghosts`: what the type's `impl` says for the ghosts of the trait's clauses."""
     crate: str
     path: str
     key: str
     public: bool
     contract: str
     program: bool = field(default=False)
+    trait: str = field(default='')
+    declares: bool = field(default=False)
+    ghosts: str = field(default='')
+
+    @property
+    def law(self):
+        return (self.trait, self.key.rsplit('.', 1)[1])
 
 
 def squeeze(text):
@@ -95,35 +105,78 @@ def body_end(lines, at, indent, head):
 
 def declared(crate, path, head, lines, sections):
     body = [line for line in lines if line.strip()]
-    statement = []
+    statement, clauses = [], []
     for line in body:
         clause = re.match(r'^\s*' + re.escape(head['name']) + r'( |$)', line) and statement and not head['kind']
         if clause or (line.lstrip().startswith('unfolding ') and not head['kind']):
-            break
-        statement.append(line)
+            clauses.append(line)
+        elif clauses:
+            clauses[-1] += ' ' + line
+        else:
+            statement.append(line)
     said = squeeze(' '.join(sections + statement))
-    return Declaration(crate, path, head['name'], bool(head['pub']), said, squeeze(' '.join(sections + body)), len(body))
+    cited = squeeze(' '.join([said] + [unbound(clause) for clause in clauses]))
+    return Declaration(crate, path, head['name'], bool(head['pub']), said, squeeze(' '.join(sections + body)), len(body), cited)
+
+
+def unbound(clause):
+    """What a clause says, without its left side and the names that this binds: of `says (Ok plan) = plan ∷ []` only `∷ []`."""
+    left, equals, right = clause.partition(' = ')
+    if not equals:
+        return clause
+    bound = set(re.findall(r'[^\s(){}\[\],;]+', left))
+    return re.sub(r'[^\s(){}\[\],;]+', lambda m: '' if m[0].partition('.')[0] in bound else m[0], right)
 
 
 FUNCTION = re.compile(r'^(?P<indent> *)(?P<pub>pub )?(?:extern "C" )?fn (?P<name>\w+)')
+BLOCK = re.compile(r'^(?:(?:pub )?trait (?P<declared>\w+)|impl (?:(?:\w+::)*(?P<trait>\w+) for )?(?P<type>\w+))')
+
+
+def without_generics(line):
+    """`impl Clone for Row {` of `impl<T: Copy, const N: usize> Clone for Row<T, N> {`."""
+    depth, kept = 0, ''
+    for at, letter in enumerate(line):
+        if letter == '<':
+            depth += 1
+        elif letter == '>' and line[at - 1] != '-':
+            depth -= 1
+        elif not depth:
+            kept += letter
+    return kept
+
+
+def contract_at(lines, at):
+    """Head and clauses of the function at a line: up to its body, or in a trait to the semicolon."""
+    end = at
+    while not lines[end].endswith(';') and (not lines[end].endswith(('{', '{}')) or lines[end].lstrip().startswith(('requires', 'ensures'))):
+        end += 1
+    return squeeze(re.sub(r'(?:\{\}?|;)$', '', ' '.join(lines[at:end + 1])))
+
+
+def ghosts_at(lines, at):
+    """The ghosts of the block that starts at a line."""
+    end = next(k for k in range(at, len(lines)) if lines[k].startswith('}'))
+    return ' '.join(squeeze(ghost) for ghost in re.findall(r'^    ghost (.*?);$', '\n'.join(lines[at:end]), re.M | re.S))
 
 
 def functions(crate, path, text, program):
     module = os.path.basename(path)[:-3]
     prefix = [crate] + ([] if module in ('lib', 'main') else [module])
-    owner, found, lines = None, [], text.split('\n')
+    block, found, lines = None, [], text.split('\n')
     for at, line in enumerate(lines):
-        impl = re.match(r'^impl (\w+)', line)
-        owner = impl[1] if impl else None if line.startswith('}') else owner
+        head = BLOCK.match(without_generics(line))
+        if head or line.startswith('}'):
+            block, ghosts = head, ghosts_at(lines, at) if head and head['trait'] else ''
         m = FUNCTION.match(line)
         if not m:
             continue
-        end = at
-        while not lines[end].rstrip().endswith('{') or lines[end].lstrip().startswith(('requires', 'ensures')):
-            end += 1
-        key = '.'.join(prefix + ([owner] if owner else []) + [m['name']])
-        contract = squeeze(' '.join(lines[at:end + 1]).rstrip('{'))
-        found.append(Function(crate, path, key, bool(m['pub']), contract, program))
+        owner = [(block['declared'] or block['type']) + (block['trait'] or '')] if block else []
+        f = Function(crate, path, '.'.join(prefix + owner + [m['name']]), bool(m['pub']), contract_at(lines, at), program)
+        if block and not block['type']:
+            f.trait, f.declares = block['declared'], True
+        elif block and block['trait']:
+            f.trait, f.ghosts = block['trait'], ghosts
+        found.append(f)
     return found
 
 
@@ -136,6 +189,15 @@ class Tree:
         self.texts = {}
         for path in sorted(self.files()):
             self.read(path)
+        self.fill_clauses()
+
+    def fill_clauses(self):
+        """A type's method of a trait has the trait's clauses. Those of a library's trait are not in the tree: there the ghosts stand for them."""
+        laws = {f.law: re.sub(r'^.*?(?= requires | ensures |$)', '', f.contract) for f in self.functions if f.declares}
+        for f in self.functions:
+            if f.trait and not f.declares:
+                said = f'{laws[f.law]} {f.ghosts}' if f.law in laws else f' ensures {f.ghosts}' if f.ghosts else ''
+                f.contract = squeeze(f.contract + said)
 
     def files(self):
         for folder, inner, names in os.walk(os.path.join(self.top, 'crates')):
@@ -216,7 +278,7 @@ class Words:
             if key in found:
                 continue
             found.add(key)
-            body = self.at[key].text
+            body = self.at[key].cited
             if '.Reads.Learnt' not in body and key not in pinned:
                 open_ends += self.named(key[0], body)
         return found
