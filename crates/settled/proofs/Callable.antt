@@ -1,5 +1,7 @@
 -- "No public entry point has a `requires`", as a statement: every function over bytes, every call of the runner and every C function may be called with
 -- all inputs. A `requires` that asked something would fail here. Assumes nothing.
+use Rattle.records.proofs as records
+use Rattle.records.specs.contracts as records_contracts
 use Rattle.table.proofs as table
 use Rattle.table.specs.contracts as table_contracts
 use Rattle.plan.proofs as plan
@@ -16,6 +18,8 @@ use Rattle.frame_reports.proofs as frame_reports
 use Rattle.frame_reports.specs.contracts as frame_reports_contracts
 use Rattle.frame_calls.proofs as frame_calls
 use Rattle.frame_calls.specs.contracts as frame_calls_contracts
+use Rattle.frame_log.proofs as frame_log
+use Rattle.frame_log.specs.contracts as frame_log_contracts
 use Rattle.listing.proofs as listing
 use Rattle.listing.specs.contracts as listing_contracts
 use Rattle.replaying.proofs as replaying
@@ -39,6 +43,15 @@ read_table κs i = tt
 
 pub table_empty : AsksNothing table_contracts.Table.empty.ended table.Table.empty.Reads.Pre
 table_empty κs i = tt
+
+pub numbers_of : AsksNothing records_contracts.refusal.numbers_of.ended records.refusal.numbers_of.Reads.Pre
+numbers_of κs i = tt
+
+pub ended_at : AsksNothing records_contracts.record.ended_at.ended records.record.ended_at.Reads.Pre
+ended_at κs i = tt
+
+pub plan_empty : AsksNothing plan_contracts.Plan.empty.ended plan.Plan.empty.Reads.Pre
+plan_empty κs i = tt
 
 pub read_plan_lem : AsksNothing plan_contracts.read_plan.ended plan.read_plan.Reads.Pre
 read_plan_lem κs i = tt
@@ -99,6 +112,9 @@ close κs i = tt
 
 pub read : AsksNothing frame_calls_contracts.read.ended frame_calls.read.Reads.Pre
 read κs i = tt
+
+pub record_at : AsksNothing frame_log_contracts.record_at.ended frame_log.record_at.Reads.Pre
+record_at κs i = tt
 
 pub list_plan : AsksNothing listing_contracts.list_plan.ended listing.list_plan.Reads.Pre
 list_plan κs i = tt

@@ -59,7 +59,10 @@ use Rattle.settled.specs.Settled.{Settles, SettlesAsked, SettlesPart, SettlesOnl
 use Rattle.std.specs.declared.io.Print
 use Rattle.planner.specs.declared.orders.Order
 use Rattle.records.specs.declared.kind.Allowed
-use Rattle.planner.specs.Orders.{Finds}
+use Rattle.planner.specs.Answers.{Possible, FreePlan, GivenPlan}
+use Rattle.planner.specs.Orders.{Finds, free_of, given_of, free_finds, given_finds}
+use Rattle.model.specs.Timetable.{Timetable}
+use Rattle.model.specs.GivenOrder.{InOrder}
 use Rattle.std.specs.declared.io.Write
 use denote.RattleType.{RattleType}
 use denote.Param.Laws.{Laws}
@@ -116,6 +119,15 @@ place_past κs i r s m n p q = (p ∙ sym q, refl)
 module _ (T : RattleType) (L : Laws T) (P : Allowed.Ghosts T.Denot) (d e : Dict) where
   pub opened : Settles (records_contracts.record.opened.ended T P d e) (records.record.opened.Reads.Learnt T L P d e)
   opened κs i r s m n p q = (p ∙ sym q, refl)
+
+pub frame_kind_of : Settles records_contracts.kind.FrameKindAllowed.of.ended records.kind.FrameKindAllowed.of.Reads.Learnt
+frame_kind_of κs i r s m n p q = (p ∙ sym q, refl)
+
+pub row_kind_of : Settles records_contracts.kind.RowKindAllowed.of.ended records.kind.RowKindAllowed.of.Reads.Learnt
+row_kind_of κs i r s m n p q = (p ∙ sym q, refl)
+
+pub step_kind_of : Settles records_contracts.kind.StepKindAllowed.of.ended records.kind.StepKindAllowed.of.Reads.Learnt
+step_kind_of κs i r s m n p q = (p ∙ sym q, refl)
 
 pub ended_at : Settles records_contracts.record.ended_at.ended records.record.ended_at.Reads.Learnt
 ended_at κs i r s m n p q = (p ∙ sym q, refl)
@@ -230,6 +242,26 @@ module _ (T : RattleType) (L : Laws T) (P : Order.Ghosts T.Denot) (d : Dict) (fi
       let same = planner.Settled.planner_settled _ _ r m.1.0 s n.1.0 P.can_meet P.is_plan finds.possible finds.unique p q in
       (same.0, λ k. (tt, (same.1 k, tt)))
 
+-- so in both orders
+module _ (T : RattleType) (L : Laws T) (d : Dict) where
+  abbrev free_order : Order.Ghosts T.Denot
+  free_order = record { can_meet = Possible Timetable; is_plan = FreePlan; found = free_of }
+
+  abbrev given_order : Order.Ghosts T.Denot
+  given_order = record { can_meet = Possible InOrder; is_plan = GivenPlan; found = given_of }
+
+  pub plan_read_free : Settles (planner_contracts.plan_read.ended T free_order d) (planner.plan_read.Reads.Learnt T L free_order d)
+  plan_read_free = plan_read T L free_order d free_finds
+
+  pub plan_read_given : Settles (planner_contracts.plan_read.ended T given_order d) (planner.plan_read.Reads.Learnt T L given_order d)
+  plan_read_given = plan_read T L given_order d given_finds
+
+pub free_order_plan : Settles planner_contracts.orders.FreeOrderOrder.plan.ended planner.orders.FreeOrderOrder.plan.Reads.Learnt
+free_order_plan κs i r s m n p q = (p ∙ sym q, refl)
+
+pub given_order_plan : Settles planner_contracts.orders.GivenOrderOrder.plan.ended planner.orders.GivenOrderOrder.plan.Reads.Learnt
+given_order_plan κs i r s m n p q = (p ∙ sym q, refl)
+
 pub least_deadline_read : Settles planner_contracts.least_deadline_read.ended planner.least_deadline_read.Reads.Learnt
 least_deadline_read κs i r s m n p q = (planner.Settled.least_settled _ r s p q, refl)
 
@@ -325,6 +357,15 @@ module _ (T : RattleType) (L : Laws T) (P : Write.Ghosts T.Denot) (d : Dict) whe
   replay_to κs i r s m n p q = p.0 ∙ sym q.0
 
 -- ---- panel
+
+pub planned_from : Settles panel_contracts.PlannedNumbersFromResultWrittenRefusal.from.ended panel.PlannedNumbersFromResultWrittenRefusal.from.Reads.Learnt
+planned_from κs i r s m n p q = (p ∙ sym q, refl)
+
+pub least_from : Settles panel_contracts.LeastNumbersFromResultU16Refusal.from.ended panel.LeastNumbersFromResultU16Refusal.from.Reads.Learnt
+least_from κs i r s m n p q = (p ∙ sym q, refl)
+
+pub checked_from : Settles panel_contracts.CheckedNumbersFromResultPassedRefusal.from.ended panel.CheckedNumbersFromResultPassedRefusal.from.Reads.Learnt
+checked_from κs i r s m n p q = (p ∙ sym q, refl)
 
 pub zb_plan_free : Settles panel_contracts.zb_plan_free.ended panel.zb_plan_free.Reads.Learnt
 zb_plan_free κs i r s m n p q =

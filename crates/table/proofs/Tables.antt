@@ -1,4 +1,4 @@
--- Laws of the tables: what the records of a table tell once they are read (`frame_all`, `RowIs`), and the table as `table_from` holds it:
+-- Laws of the tables: what the records of a table tell once they are read (`frame_all`, `RowIs`), and the table as `jobs_from` holds it:
 -- one more job, and the end. What follows of a list of records is in proofs/Listed.antt. Assumes nothing.
 use Prim.Native.Nat.{ℕ, ◌+◌, ◌≤◌, ◌<◌}
 use mathlib.Core.Path.{◌≡◌, sym, ap, subst, ◌∙◌}
