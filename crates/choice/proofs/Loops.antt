@@ -7,7 +7,7 @@ use Prim.Native.Nat.{ℕ, suc, ◌+◌, ◌-◌, ◌/◌, ◌%◌, ◌≤◌, �
 use native.Mathlib.Omega.{arith}
 use native.Mathlib.Numerals.{add-one}
 use lib.Dec.{eqb}
-use lib.ListN.{length, get_or, take, drop, set, replicate, length-map, length-set, length-replicate, drop_of_length-le}
+use lib.ListN.{length, get_or, take, drop, set, replicate, length-map, length-set}
 use lib.Seq.{take-suc, drop-cons, length-take-le, set_at, append_snoc}
 use Rattle.model.specs.declared.Job.{Job}
 use Rattle.std.specs.List.{sum, sum_by}
@@ -55,16 +55,8 @@ pub record Marking (is : List ℕ) (mask : ℕ) (flags : List Bool) (left k : �
   pub rest : marked (drop k is) (digits (length is - k) left) flags ≡ marked is (digits (length is) mask) (replicate most_jobs false)
 
 module _ (is : List ℕ) (mask : ℕ) where
-  pub marking_none : Marking is mask (replicate most_jobs false) mask 0
-  marking_none = let z : length is - 0 ≡ length is = omega arith in record { size = length-replicate most_jobs false; rest = rw z refl }
-
   module _ (flags : List Bool) (left k : ℕ) (m : Marking is mask flags left k) where
     pub marking_more : k < length is → Marking is mask (set flags (get_or is k 0) (eqb (left % 2) 1)) (left / 2) (k + 1)
     marking_more h =
         let n : length is - k ≡ suc (length is - suc k) = omega arith in
         record { size = length-set flags (get_or is k 0) _ ∙ m.size; rest = rw add-one (rw (n, drop-cons is k 0) at m.rest) }
-
-    pub marking_all : length is ≤ k → flags ≡ marked is (digits (length is) mask) (replicate most_jobs false)
-    marking_all h =
-        let n : length is - k ≡ 0 = omega arith in
-        rw (n, drop_of_length-le is h) at m.rest

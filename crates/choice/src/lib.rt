@@ -14,7 +14,8 @@ use model::Job;
 use order::AwayOrder;
 use table::Table;
 
-// The either jobs with their positions in the table, in away order, and the local times of the here-only jobs in all.
+// The either jobs with their positions in the table, in away order, and the local times of the here-only jobs in all. Positions and jobs are two
+// arrays, since the rows take the jobs alone.
 // That it is of a table's jobs the contracts ask by `Ready`, and no ghost field does: `prepared_of` has to be one of these for any jobs.
 #[derive(Clone, Copy)]
 pub struct Prepared {
@@ -37,7 +38,7 @@ impl Prepared {
 fn here_time(job: Job) -> u32
     ensures { (result ≡ here_time job) × (result ≤ 65535) }
 {
-    if job.may_go() { 0 } else { job.local as u32 }
+    if job.may_go() { 0 } else { u32::from(job.local) }
 }
 
 // The local times of the here-only jobs in all.
@@ -75,7 +76,8 @@ pub fn prepare(t: &Table) -> Prepared
     }
 }
 
-// The best choice at the deadline d, as a mask: bit j says that the j-th job in away order is away. None where no choice meets it.
+// The best choice at the deadline d, as a mask: bit j says that the j-th job in away order is away. None where no choice meets it. The deadline is a
+// plain number with its bound in a clause, since the search for the least one makes it.
 pub fn best_choice(d: u16, p: &Prepared) -> Option<u32>
     requires { (d ≤ largest_time) × Ready p.now }
     ensures { OfItsJobs p.now (λ js. result ≡ best_mask_of (answer d js)) }
@@ -88,7 +90,8 @@ pub fn best_choice(d: u16, p: &Prepared) -> Option<u32>
     }
 }
 
-// A flag for each position of the table: whether the choice that the mask stands for has the job there away.
+// A flag for each position of the table: whether the choice that the mask stands for has the job there away. Flags beside the jobs, as the definitions
+// have them: the choice is one of many of the same jobs.
 pub fn flags_of(p: &Prepared, mask: u32) -> [bool; Table::MOST_JOBS]
     requires { Ready p.now }
     ensures { OfItsJobs p.now (λ js. result ≡ flags_of js mask) }

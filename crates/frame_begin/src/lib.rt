@@ -13,7 +13,7 @@ use model::Job;
 use records::refusal::Refusal;
 use table::Table;
 
-// Whether a plan of `count` steps sends the job with an id away.
+// Whether a plan of `count` steps sends the job with an id away: a search, since a plan has no index by ids, and is read where it stands.
 fn away_in(plan: &[u8], count: usize, id: u8) -> bool
     requires { count ≤ length (steps_in (read_plan plan.now)) }
     ensures { result ≡ away_in (steps_in (read_plan plan.now)) count id }
@@ -27,21 +27,17 @@ fn away_in(plan: &[u8], count: usize, id: u8) -> bool
     false
 }
 
-// The entries of a table's jobs, none of which has a value.
+// The entries of a table's jobs, none of which has a value. Jobs and plan stay two parameters: they have passed the check, and go no further together.
 fn entries_of(jobs: &[Job], plan: &[u8]) -> [Entry; Table::MOST_JOBS]
     requires { (length jobs.now ≤ most_jobs) × (length jobs.now ≤ length (steps_in (read_plan plan.now))) }
     ensures { result ≡ entries_of jobs.now (steps_in (read_plan plan.now)) (length jobs.now) }
 {
-    let mut entries = [Entry {
-        id: 0,
-        away: false,
-        standing: Standing::Waiting,
-    }; Table::MOST_JOBS];
+    let mut entries = [Entry::NONE; Table::MOST_JOBS];
     for (i, job) in jobs.iter().enumerate() {
         entries[i] = Entry {
             id: job.id,
             away: away_in(plan, jobs.len(), job.id),
-            standing: Standing::Waiting,
+            ..Entry::NONE
         };
     }
     entries

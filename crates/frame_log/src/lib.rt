@@ -93,7 +93,7 @@ fn value_of(bits: u32) -> f32
     f32::from_bits(bits)
 }
 
-// The call of a whole record that is no begin.
+// The call of a whole record that is no begin. Its kind and its bytes stay two parameters: the bytes are those that the kind's length has cut off.
 fn event_of(kind: EventKind, s: &[u8]) -> Event
     requires { event_size kind ≡ length s.now }
     ensures { result ≡ event_of kind s.now }

@@ -52,7 +52,17 @@ pub struct Entry {
     pub standing: Standing,
 }
 
-// The entries stand in table order; order[k] is the table position of the k-th job of the plan, and `next` how far the plan is.
+impl Entry {
+    // What stands behind the jobs.
+    pub const NONE: Entry = Entry {
+        id: 0,
+        away: false,
+        standing: Standing::Waiting,
+    };
+}
+
+// The entries stand in table order; order[k] is the table position of the k-th job of the plan, and `next` how far the plan is. Fixed memory: a plain
+// block that the caller may lend in any state, so arrays with their count, and fields that an idle record has too.
 #[derive(Clone, Copy)]
 pub struct Frame {
     pub phase: Phase,
@@ -100,7 +110,7 @@ pub enum Event {
     Read(u8),
 }
 
-// Whether x is a number: neither NaN nor infinite.
+// Whether x is a number, neither NaN nor infinite: a rule of the frame, by the library's test.
 pub fn finite(x: f32) -> bool
     ensures { result ≡ finite? x }
 {
@@ -124,11 +134,6 @@ impl Frame {
     pub fn idle() -> Frame
         ensures { result ≡ idle }
     {
-        let none = Entry {
-            id: 0,
-            away: false,
-            standing: Standing::Waiting,
-        };
         Frame {
             phase: Phase::Idle,
             number: 0,
@@ -137,7 +142,7 @@ impl Frame {
             count: 0,
             next: 0,
             order: [0; Table::MOST_JOBS],
-            entries: [none; Table::MOST_JOBS],
+            entries: [Entry::NONE; Table::MOST_JOBS],
         }
     }
 

@@ -10,7 +10,8 @@ ghost use Rattle.frame_reports.specs.Reports.{judged, moved, span_at, span_step,
 use frame_record::{Called, Entry, Frame, Sample, Standing, finite};
 use records::refusal::Refusal;
 
-// What a value that comes at a time makes of its job; one that is no number is refused.
+// What a value that comes at a time makes of its job; one that is no number is refused. Time and value stay two parameters, as document 01 lists what
+// a call brings: the time also moves the clock, where there is no value.
 fn judged(value: f32, number: u32, time: u16, deadline: u16) -> Result<Standing, Refusal>
     ensures { result ≡ judged value number time deadline }
 {
@@ -26,7 +27,7 @@ fn judged(value: f32, number: u32, time: u16, deadline: u16) -> Result<Standing,
     Ok(Standing::Late)
 }
 
-// The job at a position of the table stands at s from now on.
+// The job at a position of the table stands at s from now on. That the position is one the clauses say, since the record is lent in any state.
 fn moved(mut f: Frame, at: usize, time: u16, next: usize, s: Standing) -> Frame
     requires { at < most_jobs }
     ensures { result ≡ moved f at time next s }

@@ -184,9 +184,6 @@ module _ (jobs : List Job) (flags : List Bool) (front : Draft) (room : HereRoom 
         let b : busy room.before ≡ busy before = ap (λ (d : Draft). d.laid.busy) same in
         record { few = omega (arith, room.few); short = room.short; early = rw (n, b) at room.early }
 
-    pub here_start : Here jobs flags before front jobs flags 0
-    here_start = record { listing = listing_begin here before hs front held; jobs_left = refl; flags_left = refl }
-
     pub here_end : length jobs ≤ length flags → (draft : Draft) (left : List Job) (fs : List Bool) (k : ℕ) → Here jobs flags before draft left fs k
         → (length left ≡ 0) ⊎ (length fs ≡ 0) → draft ≡ draft_of (before ++ filter here hs)
     here_end l draft left fs k h z = listing_end here before hs draft k (done z) h.listing

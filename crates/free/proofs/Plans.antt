@@ -2,7 +2,7 @@
 -- Assumes nothing.
 use mathlib.Core.Path.{◌≡◌, refl, sym, ap, ◌∙◌}
 use mathlib.Core.List.{List, ◌++◌}
-use Rattle.std.specs.Prelude.{None, Some}
+use Rattle.std.specs.Prelude.{Some}
 use Prim.Native.Nat.{ℕ, ◌≤◌}
 use native.Mathlib.Omega.{arith}
 use lib.ListN.{length, length-append}
@@ -30,13 +30,6 @@ pub plan_many : (cs : List Chosen) → (js : List Job) → Choice js cs → leng
 plan_many cs js c = length_perm (perm_plan cs c.allowed)
 
 module _ (js : List Job) (sound : SoundJobs js) (D : ℕ) where
-  pub found_nothing : None ≡ best_mask_of (answer D js) → None ≡ drafted_of (free most_jobs D js)
-  found_nothing e = step (answer D js) refl e
-    where
-      step : (c : Cell) → answer D js ≡ c → None ≡ best_mask_of c → None ≡ drafted_of (free most_jobs D js)
-      step empty q f = ap (λ (c : Cell). drafted_of (plan_found most_jobs js c)) (sym q)
-      step (cell a m) q f = clash (cc)
-
   module _ (m : ℕ) (e : Some m ≡ best_mask_of (answer D js)) where
     abbrev cs : List Chosen
     cs = choose js (flags_of js m)

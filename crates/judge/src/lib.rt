@@ -8,11 +8,11 @@ ghost use Rattle.table.specs.Tables.{Sound, job_table};
 ghost use Rattle.plan.specs.Plans.{read_plan, plan_read};
 ghost use Rattle.judge.specs.Check.{after_plan, check_plan};
 
-use model::{Job, Laid, Sending};
+use model::{Job, Laid};
 use records::refusal::Refusal;
 use table::Table;
 
-// What a plan that passes comes to: its run's last finish and busy total.
+// What a plan that passes comes to, in the order in which it is answered: its run's last finish and busy total.
 #[derive(Clone, Copy, Debug, PartialEq, Eq)]
 pub struct Passed {
     pub last: u32,
@@ -23,14 +23,10 @@ pub struct Passed {
 fn is_kept(job: Job, away: bool) -> bool
     ensures { result ≡ (away && not (is_either job)) }
 {
-    let sending = job.sending;
-    match sending {
-        Sending::HereOnly => away,
-        Sending::Either { setup: _, back: _ } => false,
-    }
+    away && !job.may_go()
 }
 
-// Judges the steps of a plan that reads as `steps` of them. Ids differ in the table and in the plan, so once every step
+// Judges the steps of a plan that reads as `steps` of them, which only the reader can count. Ids differ in the table and in the plan, so once every step
 // names a job of the table, a job is left exactly when the steps are fewer than the jobs.
 fn check_steps(t: &Table, plan: &[u8], steps: usize) -> Result<Passed, Refusal>
     requires { Sound t.now × (plan_read (read_plan plan.now) ≡ Ok steps) }

@@ -1,5 +1,6 @@
 // What every line of text is made of: a word with a number behind it, two of them on a line, and the line of a refusal.
-// The lister, the replay and what comes after them write these into a lent area, at a place of it (`Wrote` of crate octets).
+// The lister, the replay and what comes after them write these into a lent area, at a place of it (`Wrote` of crate octets): no formatter says which
+// bytes it leaves there.
 #![tactic(auto)]
 
 ghost use Rattle.std.specs.Prelude.{◌++◌, ◌+◌, ◌≤◌, length};

@@ -47,14 +47,7 @@ fn put_job_line(out: &mut [u8], at: usize, job: Job, away: bool, start: usize) -
 fn job_at(jobs: &[Job], i: usize) -> Job
     ensures { result ≡ get_or jobs.now i no_job }
 {
-    if i < jobs.len() {
-        return jobs[i];
-    }
-    Job {
-        id: 0,
-        local: 0,
-        sending: Sending::HereOnly,
-    }
+    jobs.get(i).copied().unwrap_or(Job::NONE)
 }
 
 // A line for each step of the plan, back to back from tick 0.

@@ -9,7 +9,7 @@ use Rattle.std.specs.Prelude.{None, Some, Option}
 use lib.ListN.{length, get_or, set, replicate, length-set, length-replicate, get_or-replicate}
 use lib.Seq.{get_or-set_same, get_or-set_other, ext_get_or}
 use lib.Dec.{eqb}
-use native.Mathlib.Nat.{eq-or-lt_of_le, sub-zero}
+use native.Mathlib.Nat.{eq-or-lt_of_le}
 use native.Mathlib.Omega.{arith}
 use borrow.Author.Tests.{eqb-true, eqb-false, eq-eqb, ne_eqb}
 use Rattle.model.specs.declared.Job.{Job}
@@ -189,9 +189,6 @@ module _ (js : List Job) (i : ℕ) (index : List ℕ) (more : i < length js) whe
         size = length-set index own i ∙ t.size;
         tells = λ id b. told (rw t.size byte) id 0 _ (t.tells id b) (eqb own id) refl ∙ ap indexed (sym (first_turn job_id no_job js id i _ more));
       }
-
-pub tail_whole : (js : List Job) (index : List ℕ) → Tail js 0 index → Indexes js index
-tail_whole js index t = record { size = t.size; tells = λ id b. rw sub-zero at (t.tells id b) }
 
 -- What an index tells of an id: a number below that of the jobs is the position of its job, and any other means that there is none.
 module _ (js : List Job) (index : List ℕ) (is : Indexes js index) (few : length js ≤ most_jobs) (id : ℕ) (byte : id < 256) where

@@ -8,7 +8,8 @@ ghost use Rattle.lookup.specs.Lookup.{Indexes};
 use model::Job;
 use table::Table;
 
-// For each id the position of the first job that has it, and `Table::MOST_JOBS` where none has, so that one comparison with the count tells both.
+// For each id the position of the first job that has it, and `Table::MOST_JOBS` where none has: the check compares with the count once, and those who
+// know that the job is there have no Option to take apart.
 // From the last job to the first, so that the first one stays.
 pub fn index_of(jobs: &[Job]) -> [u8; 256]
     requires { length jobs.now ≤ most_jobs }

@@ -57,7 +57,7 @@ impl Job {
     }
 }
 
-// How long the job's span on the panel is: C here, S away.
+// How long the job's span on the panel is: C here, S away. Job and way stay two parameters: they meet in a call, and nothing here keeps the pair.
 pub fn span_of(job: Job, away: bool) -> u32
     ensures { (result ≡ span (chosen job away)) × (result ≤ 65535) }
 {
@@ -76,7 +76,8 @@ pub fn wait_of(job: Job, away: bool) -> u32
     }
 }
 
-// Jobs laid back to back from tick 0: the sum of their spans, which is when the last span ends, and the latest finish.
+// Jobs laid back to back from tick 0: the sum of their spans, which is when the last span ends, and the latest finish. Its bound is that of 32 jobs,
+// so the contracts have it: each job more raises the sum, and the type does not count them.
 #[derive(Clone, Copy)]
 pub struct Laid {
     pub busy: u32,

@@ -76,7 +76,7 @@ fn hex_digit(d: u32) -> u8
     (87 + d) as u8
 }
 
-// Writes `n` as eight hexadecimal digits at a place of `out`, and returns the place after them. The last digit is written first.
+// Writes `n` as eight hexadecimal digits at a place of `out`, by hand as a decimal, and returns the place after them. The last digit is written first.
 pub fn put_hex(out: &mut [u8], at: usize, n: u32) -> usize
     requires { at + 8 ≤ length out.old }
     ensures { Wrote out.old at (hex_of n) out.new result }

@@ -20,6 +20,11 @@ pub struct Step {
     pub away: bool,
 }
 
+impl Step {
+    // What stands in an entry that no step has.
+    pub const NONE: Step = Step { id: 0, away: false };
+}
+
 // A plan that is being made: the first `count` steps stand, in an array, since memory is fixed.
 #[derive(Clone, Copy)]
 pub struct Plan {
@@ -32,8 +37,7 @@ impl Plan {
     pub fn empty() -> Plan
         ensures { result ≡ plan_of [] }
     {
-        let none = Step { id: 0, away: false };
-        let steps = [none; Table::MOST_JOBS];
+        let steps = [Step::NONE; Table::MOST_JOBS];
         Plan { count: 0, steps }
     }
 
@@ -77,7 +81,8 @@ fn record_at(s: &[u8], p: Place, count: usize) -> Result<Record<Step>, Refusal>
     }
 }
 
-// How many steps a plan has, or what is refused of it; `seen` tells the ids that stand before.
+// How many steps a plan has, or what is refused of it; `seen` tells the ids that stand before. The loop is not one with the table's: here the answer
+// is taken apart as document 01 has it for what comes from anybody's program, and there the jobs are kept.
 pub fn read_plan(s: &[u8]) -> Result<usize, Refusal>
     ensures { result ≡ plan_read (read_plan s.now) }
 {
@@ -104,12 +109,12 @@ pub fn read_plan(s: &[u8]) -> Result<usize, Refusal>
     }
 }
 
-// The k-th step of a plan, read where it stands; id 0 kept here where no such step stands.
+// The k-th step of a plan, read where it stands; as in the definition, id 0 kept here where no such step stands.
 pub fn step_at(s: &[u8], k: usize) -> Step
     ensures { result ≡ step_at s.now k }
 {
     if s.len() / 2 <= k {
-        return Step { id: 0, away: false };
+        return Step::NONE;
     }
     Step {
         id: s[2 * k + 1],

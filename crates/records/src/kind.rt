@@ -68,7 +68,8 @@ pub fn form_of(kind: u8) -> Option<Form>
     Some(Form { meaning, body })
 }
 
-// The kinds that may stand at a place of a file: the frame record first, then rows; in a plan steps.
+// The kinds that may stand at a place of a file: the frame record first, then rows; in a plan steps. A kind that may not stand there is no error
+// with a value, so this is no TryFrom.
 pub trait Allowed: Drop {
     ghost only: { Meaning → Option Self };
 

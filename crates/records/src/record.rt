@@ -1,4 +1,5 @@
-// What is judged of every record before its body, and of the end of every file, once for tables and plans.
+// What is judged of every record before its body, and of the end of every file, once for tables and plans. Bytes and place stay two parameters, as
+// in the definitions: the bytes are the same in a whole reading, and a place alone goes into refusals and answers.
 ghost use Rattle.std.specs.Prelude.{◌≡◌, Option};
 ghost use Rattle.records.specs.Records.{opened, ended_at};
 
@@ -21,18 +22,15 @@ pub enum Record<T> {
 }
 
 // The record at a place where these kinds may stand: no byte left SHORT; kind unknown or not allowed here KIND; body cut SHORT.
+#[tactic(auto, unfolding(crate::specs::Records::judged))]
 pub fn opened<K: Allowed>(s: &[u8], p: Place) -> Result<Whole<K>, Refusal>
     ensures { result ≡ opened K.only s.now p }
 {
     if s.len() <= p.at {
         return Err(Refusal::Short(p));
     }
-    let Some(form) = kind::form_of(s[p.at]) else {
-        return Err(Refusal::Kind(p));
-    };
-    let Some(kind) = K::of(form.meaning) else {
-        return Err(Refusal::Kind(p));
-    };
+    let form = kind::form_of(s[p.at]).ok_or(Refusal::Kind(p))?;
+    let kind = K::of(form.meaning).ok_or(Refusal::Kind(p))?;
     if s.len() - (p.at + 1) < form.body {
         return Err(Refusal::Short(p));
     }

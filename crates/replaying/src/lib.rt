@@ -20,7 +20,7 @@ use records::refusal::Refusal;
 use std::io;
 use std::io::Write;
 
-// What one turn leaves: the frame's record, how many bytes of the log it took, and how many its line has.
+// What one turn leaves: the frame's record, how many bytes of the log it took, and how many its line has, which stands in an area of fixed memory.
 #[derive(Clone, Copy)]
 pub struct Turn {
     pub frame: Frame,

@@ -11,7 +11,7 @@ ghost use Rattle.rows.specs.Columns.{Fit, Raised, Sent, RoomFor, Stepped, Rows, 
 
 use model::Job;
 
-// One column for each tick from 0 to the largest time.
+// One column for each tick from 0 to the largest time. The clauses below say the length once more, to the lemmas on lists that they are handed to.
 const COLUMNS: usize = 4001;
 
 // A total of so much or more stands for nothing: no choice of the jobs so far has this setup total.
@@ -25,7 +25,7 @@ pub struct Lowest {
     pub mask: u32,
 }
 
-// The columns setup..end at which a job can be sent away; 0..0 where there is none.
+// The columns setup..end at which a job can be sent away; 0..0 where there is none, so that the passes run over it without a test.
 #[derive(Clone, Copy)]
 struct Room {
     setup: usize,

@@ -20,7 +20,7 @@ pub struct Counts {
     stale: u64,
 }
 
-// One more; the shift is far too short for a count to reach the top.
+// One more; the shift is far too short for a count to reach the top. The programs share no crate for one line.
 fn bump(count: &mut u64) {
     *count = count.saturating_add(1);
 }

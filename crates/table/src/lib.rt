@@ -12,7 +12,8 @@ use records::record::Record;
 use records::refusal::{Place, Refusal};
 
 // Memory is fixed, so the jobs are an array with its count, as a plan's steps are. The count's bound stands in the contracts: in the type, every
-// definition that makes a table of a list would carry a proof of it.
+// definition that makes a table of a list would carry a proof of it, and a slice of jobs has no bound in its type.
+// Nor are they one generic type with plans and orders: jobs, steps and positions keep their names.
 #[derive(Clone, Copy)]
 pub struct Table {
     pub deadline: u16,
@@ -33,12 +34,7 @@ impl Table {
     pub fn empty() -> Table
         ensures { result ≡ empty_table }
     {
-        let none = Job {
-            id: 0,
-            local: 0,
-            sending: Sending::HereOnly,
-        };
-        let jobs = [none; Table::MOST_JOBS];
+        let jobs = [Job::NONE; Table::MOST_JOBS];
         Table {
             deadline: 0,
             count: 0,

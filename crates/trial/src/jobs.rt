@@ -1,4 +1,4 @@
-// The jobs of a table, up to six of them.
+// The jobs of a table, up to six of them, in types of the trial's own: it takes none from what it judges.
 use crate::row::Row;
 
 pub const MOST_JOBS: usize = 6;

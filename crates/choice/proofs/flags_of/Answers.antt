@@ -1,17 +1,14 @@
 -- `choice::flags_of` meets its contract; what its loop keeps stands in Invariants.antt. Assumes nothing.
-use Rattle.std.proofs.Common.{ℕ, ◌<◌, ◌∙◌}
+use Rattle.std.proofs.Common.{ℕ, ◌<◌}
 use Rattle.model.specs.Lists.{All}
 use Rattle.model.proofs.Lists.{all_at}
 use Rattle.records.specs.Limits.{most_jobs}
-use Rattle.choice.proofs.Held.{ready_few, ready_positions, held_positions}
-use Rattle.choice.proofs.Loops.{marking_none, marking_more, marking_all}
+use Rattle.choice.proofs.Held.{ready_few, ready_positions}
+use Rattle.choice.proofs.Loops.{marking_more}
 use Rattle.choice.proofs.flags_of.Goals as goal
 
 pub as_slice-position-items-requires : goal.as_slice-position-items-requires
 as_slice-position-items-requires c = ready_few _ c.requires
-
-pub loop-position-init : goal.loop-position-init
-loop-position-init c = marking_none _ _
 
 pub bounds-flags-position : goal.bounds-flags-position
 bounds-flags-position c =
@@ -21,8 +18,3 @@ bounds-flags-position c =
 
 pub loop-position-preserved : goal.loop-position-preserved
 loop-position-preserved c = marking_more _ _ _ _ _ c.loop-position.invariant c.loop-position-test.true
-
-pub returns : goal.returns
-returns c js held =
-    rw (c.as_slice-position-items.ensures ∙ held_positions _ js held)
-    at (marking_all _ _ _ _ _ c.loop-position.invariant c.loop-position-test.false)

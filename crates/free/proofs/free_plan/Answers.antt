@@ -1,8 +1,7 @@
 -- `free::free_plan` asks for the best choice, and lists its away jobs and then its here jobs; or there is none. Assumes nothing.
-use mathlib.Core.Path.{◌≡◌, sym, ◌∙◌}
+use mathlib.Core.Path.{sym, ◌∙◌}
 use mathlib.Core.List.{List}
 use Rattle.std.proofs.Common.{rules}
-use Rattle.std.specs.Prelude.{None}
 use Rattle.model.specs.declared.Job.{Job}
 use Rattle.model.specs.FreeOrder.{is_away}
 use Rattle.model.specs.Lists.{filter}
@@ -10,7 +9,7 @@ use Rattle.table.specs.declared.Table.{Table}
 use Rattle.table.specs.Tables.{job_table, Sound}
 use Rattle.choice.specs.Choices.{SoundJobs, flags_of}
 use Rattle.free.specs.Parts.{in_away_order}
-use Rattle.free.proofs.Plans.{found_nothing, found_room, found_plan}
+use Rattle.free.proofs.Plans.{found_room, found_plan}
 use Rattle.free.proofs.free_plan.Goals as goal
 
 -- the table's jobs, and that they are sound
@@ -19,12 +18,6 @@ jobs t = (job_table t).jobs
 
 sound : (t : Table) → Sound t → SoundJobs (jobs t)
 sound t s = record { few = s.good.few; times = s.good.times }
-
-pub returns-in_err-mask : goal.returns-in_err-mask
-returns-in_err-mask c =
-    let t = c.args.t.now in
-    let out : c.from_residual.result ≡ None = search rules in
-    rw out (found_nothing (jobs t) (sound t c.requires) t.deadline (sym c.in_err-mask.was ∙ c.best_choice.ensures (jobs t) c.prepare-p.ensures))
 
 pub here_part-requires : goal.here_part-requires
 here_part-requires c =

@@ -1,14 +1,8 @@
 -- `free::here_part` meets its contract; what its loop keeps stands in Invariants.antt. Assumes nothing.
-use Rattle.std.proofs.Common.{rules, ◌≡◌, ◌≤◌, length, true, false, not, refl, ap, inl, inr, arith}
+use Rattle.std.proofs.Common.{◌≤◌, length, true, false, not, refl, ap, inl, inr, arith}
 use Rattle.std.proofs.lemmas.List.{length_push}
-use Rattle.free.proofs.Parts.{here_start, here_room, here_more, here_end}
+use Rattle.free.proofs.Parts.{here_room, here_more, here_end}
 use Rattle.free.proofs.here_part.Goals as goal
-
-pub loop-job-init : goal.loop-job-init
-loop-job-init c before held =
-    let jobs : c.into_iter-job-iterator.result.a.rest.now ≡ c.args.jobs.now = search rules in
-    let flags : c.into_iter-job-iterator.result.b.rest.now ≡ c.args.flags.now = search rules in
-    rw (jobs, flags) (here_start _ _ _ c.requires.1 before held)
 
 pub push-requires : goal.push-requires
 push-requires c =

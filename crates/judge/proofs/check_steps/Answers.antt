@@ -51,12 +51,6 @@ returns-then-t-i c =
     let e = lacks c.args.t.now _ c.index_of-index.ensures (counted c.args.t.now (search rules) c.requires.0.few) c.requires.0.few _ (search rules) c.if-t-i.true in
     walk_stranger _ _ _ c.loop-k.invariant c.loop-k-test.true (rw c.step_at-step.ensures at e)
 
-pub offset_bounds-t-i : goal.offset_bounds-t-i
-offset_bounds-t-i c = omega (arith, c.if-t-i.false, c.requires.0.few)
-
-pub bounds-t-i : goal.bounds-t-i
-bounds-t-i c = omega (arith, c.if-t-i.false, c.requires.0.few)
-
 pub returns-then-is_kept : goal.returns-then-is_kept
 returns-then-is_kept c =
     let e = sym c.is_kept.ensures ∙ c.if-is_kept.true in

@@ -3,7 +3,7 @@ use Prim.Native.Nat.{◌+◌, ◌-◌}
 use mathlib.Core.Path.{◌≡◌}
 use native.Mathlib.Omega.{arith}
 use Rattle.std.proofs.Common.{rules}
-use Rattle.lookup.proofs.Lookup.{tail_begin, tail_more, tail_whole}
+use Rattle.lookup.proofs.Lookup.{tail_begin, tail_more}
 use Rattle.lookup.proofs.index_of.Goals as goal
 
 pub loop-i-init : goal.loop-i-init
@@ -13,8 +13,3 @@ pub loop-i-preserved : goal.loop-i-preserved
 loop-i-preserved c =
     let next : c.loop-i.i - 1 + 1 ≡ c.loop-i.i = omega arith in
     tail_more c.args.jobs.now (c.loop-i.i - 1) c.loop-i.index (omega arith) (search rules) (rw next c.loop-i.invariant)
-
-pub returns : goal.returns
-returns c =
-    let none : c.loop-i.i ≡ 0 = omega arith in
-    tail_whole _ _ (rw none at c.loop-i.invariant)

@@ -1,14 +1,11 @@
 -- `octets::put_hex` meets its contract; what its loop keeps stands in Invariants.antt. Assumes nothing.
-use mathlib.Core.Path.{refl, sym, ◌∙◌}
+use mathlib.Core.Path.{sym, ◌∙◌}
 use native.Mathlib.Omega.{arith}
 use lib.ListN.{length-set}
 use borrow.Author.Rules.{rules}
 use Rattle.octets.specs.Hex.{hex_of}
 use Rattle.octets.proofs.Hex.{one_more, none_left, hex_length}
 use Rattle.octets.proofs.put_hex.Goals as goal
-
-pub loop-i-init : goal.loop-i-init
-loop-i-init c = record { within = omega arith; size = refl; rest = refl }
 
 pub loop-i-preserved : goal.loop-i-preserved
 loop-i-preserved c =

@@ -38,12 +38,6 @@ returns-then-seen-id c =
     let s = (goal.at.returns-then-seen-id c).After-struct_known-1 in
     ap plan_read (so_far_twice _ _ _ c.loop-record.invariant.so (listed s) (omega arith) c.if-seen-id.true)
 
-pub overflow_add-count : goal.overflow_add-count
-overflow_add-count c = omega (arith, room (goal.at.overflow_add-count c).After-struct_known-1)
-
-pub loop-record-smaller : goal.loop-record-smaller
-loop-record-smaller c = omega (arith, room (goal.at.loop-record-smaller c).After-struct_known-1)
-
 pub loop-record-preserved : goal.loop-record-preserved
 loop-record-preserved c =
     let s = (goal.at.loop-record-preserved c).After-struct_known-1 in

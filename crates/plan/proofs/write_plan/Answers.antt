@@ -1,14 +1,11 @@
 -- `plan::write_plan` meets its contract; what its loop keeps stands in Invariants.antt. Assumes nothing.
 use native.Mathlib.Omega.{arith}
-use mathlib.Core.Path.{refl, sym, ap, ◌∙◌}
+use mathlib.Core.Path.{sym, ap, ◌∙◌}
 use Rattle.octets.specs.Writing.{written}
 use Rattle.octets.proofs.Writing.{written_append, written_front}
 use Rattle.plan.specs.Plans.{plan_bytes, steps_of}
 use Rattle.plan.proofs.Steps.{plan_length, bytes_more, bytes_done}
 use Rattle.plan.proofs.write_plan.Goals as goal
-
-pub loop-step-init : goal.loop-step-init
-loop-step-init c = record { reached = refl; rest = refl }
 
 pub loop-step-preserved : goal.loop-step-preserved
 loop-step-preserved c =
