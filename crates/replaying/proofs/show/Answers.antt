@@ -1,16 +1,11 @@
 -- `replaying::show` meets its contract: the call's word, and its answer's text behind it. Assumes nothing.
 use native.Mathlib.Omega.{arith}
 use mathlib.Core.Path.{refl, ap}
-use lib.ListN.{length}
 use Rattle.octets.proofs.Writing.{then, ends_within}
 use Rattle.frame_record.specs.declared.Called.{Called}
 use Rattle.replaying.specs.Lines.{call_word, call_line}
-use Rattle.replaying.proofs.Rooms.{word_short}
 use borrow.Author.Rules.{rules}
 use Rattle.replaying.proofs.show.Goals as goal
-
-pub put_answer-size-requires : goal.put_answer-size-requires
-put_answer-size-requires c = omega (arith, c.put-at.ensures.place, word_short c.args.kind, ap length c.word_of.ensures)
 
 pub returns : goal.returns
 unfolding call_line

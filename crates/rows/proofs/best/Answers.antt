@@ -9,15 +9,6 @@ use Rattle.rows.proofs.Bests.{Better, better_least, best_next, single_next}
 use Rattle.rows.proofs.best.Goals as goal
 use Rattle.rows.proofs.best.Goals.{then-next-found, else-next-found}
 
-pub loop-t-init : goal.loop-t-init
-loop-t-init c = (omega arith, omega arith, (omega arith, λ e. refl), (λ os r h. omega arith))
-
-pub overflow_add-next : goal.overflow_add-next
-overflow_add-next c = omega (arith, c.requires.4 c.loop-t.t (omega arith))
-
-pub overflow_add-next-in-loop-t : goal.overflow_add-next-in-loop-t
-overflow_add-next-in-loop-t c = omega (arith, c.requires.4 c.loop-t.t (omega arith))
-
 pub loop-t-preserved : goal.loop-t-preserved
 loop-t-preserved c =
     let total = get_or c.args.totals.now c.loop-t.t 0 + c.loop-t.t + c.args.base in
