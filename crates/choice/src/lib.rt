@@ -38,11 +38,7 @@ impl Prepared {
 fn here_time(job: Job) -> u32
     ensures { (result ≡ here_time job) × (result ≤ 65535) }
 {
-    if job.may_go() {
-        0
-    } else {
-        u32::from(job.local)
-    }
+    if job.may_go() { 0 } else { job.local as u32 }
 }
 
 // The local times of the here-only jobs in all.
