@@ -30,7 +30,7 @@ pub struct Whole {
     pub size: usize,
 }
 
-// The kind of a record by its first byte, stated once.
+// The kind of a record by its first byte, stated once. A byte of no kind ends the log and is no error, so this is no TryFrom.
 #[tactic(auto, unfolding(crate::specs::Log::kind_of))]
 fn kind_of(b: u8) -> Option<CallKind>
     ensures { result ≡ kind_of b }

@@ -107,7 +107,7 @@ fn put_answer(out: &mut [u8], at: usize, a: Result<Answer, Refusal>) -> usize
     }
 }
 
-// Makes the call of a whole record, and writes its line at the front of `out`.
+// Makes the call of a whole record, and writes its line at the front of `out`: a slice, as every put takes one, so that its length is a clause.
 fn show(frame: Frame, kind: CallKind, s: &[u8], out: &mut [u8]) -> Turn
     requires { (record_size kind s.now ≡ length s.now) × (length out.old ≡ line_room) }
     ensures { Shows frame kind s.now out.old result out.new }
