@@ -1,22 +1,15 @@
 -- `listing::list_plan` meets its contract: no room, a refusal's text, or the text of what the planner made; every text fits in 1,024 bytes.
 -- Assumes nothing.
-use mathlib.Core.Path.{sym, ap, ◌∙◌}
+use mathlib.Core.Path.{ap}
 use native.Mathlib.Omega.{arith}
 use lib.ListN.{length}
 use Rattle.table.proofs.Reading.{read_refused, read_whole}
-use Rattle.planner.specs.Orders.{free_finds}
-use Rattle.planner.proofs.Finishing.{found_few}
 use Rattle.listing.proofs.Short.{text_short}
 use Rattle.listing.proofs.Texts.{refused_text_lem, read_counted, made_text_lem, lists_text}
 use Rattle.listing.proofs.list_plan.Goals as goal
 
 pub free_plan-requires : goal.free_plan-requires
 free_plan-requires c = (read_whole _ _ c.read_table.ensures _ c.in-Ok.is).sound
-
-pub put_made-requires-clause-counted : goal.put_made-requires-clause-counted
-put_made-requires-clause-counted c =
-    let w = read_whole _ _ c.read_table.ensures _ c.in-Ok.is in
-    λ d e. found_few _ _ _ free_finds _ w.sound d (sym e ∙ c.free_plan.ensures)
 
 pub put_made-requires-clause-made_fits : goal.put_made-requires-clause-made_fits
 put_made-requires-clause-made_fits c =

@@ -3,16 +3,13 @@ use mathlib.Core.Path.{◌≡◌}
 use Rattle.std.proofs.Common.{rules}
 use Rattle.std.specs.Prelude.{Err, ok_or}
 use Rattle.records.specs.declared.refusal.Refusal.TheVariants as R
-use Rattle.planner.proofs.Deadlines.{least_refused, least_ready, least_answered}
+use Rattle.planner.proofs.Deadlines.{least_refused, least_answered}
 use Rattle.planner.proofs.least_deadline_read.Goals as goal
 
 pub returns-in_err-table : goal.returns-in_err-table
 returns-in_err-table c =
     let out : c.from_residual.result ≡ Err c.in_err-table.field-0.0 = search rules in
     rw out (least_refused c.args.read _ c.in_err-table.was)
-
-pub earliest-requires : goal.earliest-requires
-earliest-requires c = least_ready c.args.read _ c.in_ok-table.was _ c.prepare.ensures c.requires
 
 pub returns : goal.returns
 returns c =
