@@ -8,7 +8,7 @@ ghost use Rattle.plan.specs.Plans.{read_plan};
 ghost use Rattle.frame_record.specs.Answers.{answered};
 ghost use Rattle.frame_begin.specs.Begin.{steps_in, away_in, entries_of, positions_of, begun, may_open, begin_step};
 
-use frame_record::{Called, Entry, Frame, Phase, Standing};
+use frame_record::{Called, Entry, Frame, Phase};
 use model::Job;
 use records::refusal::Refusal;
 use table::Table;

@@ -14,7 +14,7 @@ ghost use Rattle.listing.specs.Found.{placed, step_lines, draft_text, made_text}
 ghost use Rattle.listing.specs.Listing.{choice_word, job_line, Lists};
 
 use draft::Draft;
-use model::{Job, Laid, Sending};
+use model::{Job, Laid};
 use plan::Plan;
 use records::refusal::Refusal;
 use table::Table;

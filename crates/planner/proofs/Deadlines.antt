@@ -11,18 +11,13 @@ use Rattle.records.specs.Limits.{largest_time}
 use Rattle.table.specs.declared.Table.{Table}
 use Rattle.table.specs.Tables.{job_table}
 use Rattle.choice.specs.declared.Prepared.{Prepared}
-use Rattle.choice.specs.Choices.{prepared_of, Ready, OfItsJobs, IsEarliest}
-use Rattle.planner.specs.Answers.{was_read, SoundRead, LeastRead, bad_table, never_met, met_from}
+use Rattle.choice.specs.Choices.{prepared_of, OfItsJobs, IsEarliest}
+use Rattle.planner.specs.Answers.{was_read, LeastRead, bad_table, never_met, met_from}
 
 pub least_refused : (x : Result Table Refusal) (f : Refusal) → x ≡ Err f → LeastRead (was_read x) (Err f)
 least_refused x f h = bad_table f (ap was_read h) refl
 
 module _ (x : Result Table Refusal) (t : Table) (is : x ≡ Ok t) (p : Prepared) (held : p ≡ prepared_of (job_table t).jobs) where
-  pub least_ready : SoundRead x → Ready p
-  least_ready sound =
-      let good = (rw is at sound).good in
-      record { js = (job_table t).jobs; sound = record { few = good.few; times = good.times }; held = held }
-
   module _ (q : Option ℕ) (e : OfItsJobs p (λ (js : List Job). IsEarliest largest_time js q)) where
     least_met : (d : ℕ) → q ≡ Some d → LeastRead (was_read x) (Ok d)
     least_met d h = met_from (job_table t) (ap was_read is) d (rw h at (e (job_table t).jobs held)) refl

@@ -4,7 +4,6 @@
 
 pub mod orders; // orders.rt: the two orders in which plans are made
 
-ghost use Rattle.std.specs.Prelude.{◌≡◌, List};
 ghost use Rattle.planner.specs.Answers.{was_read, SoundRead, PlanAnswer, LeastRead};
 ghost use Rattle.planner.specs.Answers.{FreeAnswer, GivenAnswer, LeastAnswer};
 
