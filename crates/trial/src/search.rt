@@ -1,5 +1,6 @@
 // The search: all choices that a rule tries, each with its plan and when it is done; the best of them, and the least deadline.
-// Nothing is sorted but a plan's own order, and no result is built from that of another choice.
+// Nothing is sorted but a plan's own order, from which the search for the least last finish does not start, and no result is built from that
+// of another choice.
 
 use crate::answers::Answer;
 use crate::choices::Choice;
@@ -35,12 +36,13 @@ pub struct Search<'a, R> {
 }
 
 fn try_choice(jobs: &Jobs, choice: Choice, rule: &impl Rule) -> Option<Tried> {
-    let listed = Steps::of(jobs, choice, rule)?.listed(rule);
+    let steps = Steps::of(jobs, choice, rule)?;
+    let listed = steps.listed(rule);
     Some(Tried {
         choice,
         listed,
         busy: listed.busy(),
-        finish: rule.finish(&listed),
+        finish: rule.finish(&steps),
     })
 }
 
