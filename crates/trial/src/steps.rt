@@ -1,8 +1,8 @@
 // The steps of a choice: each job of a table, kept here or sent away, in table order or in another one. What an order of them comes to,
 // and the search: the least last finish over all orders of the steps, laid back to back from tick 0.
-ghost use Rattle.std.specs.Prelude.{◌≡◌, length, sum_by, take, IfSome, IsPermutation};
-ghost use Rattle.trial.specs.Finish.{finish_from, IsLeastNumbered};
-ghost use Rattle.trial.specs.Orders.{arranged, orders_of};
+ghost use Rattle.std.specs.Prelude.{◌≡◌, sum_by, take, IfSome, IsPermutation};
+ghost use Rattle.trial.specs.Finish.{finish_from, IsLeastFinish};
+ghost use Rattle.trial.specs.Orders.{arranged};
 
 use crate::choices::Choice;
 use crate::jobs::{Job, Jobs, MOST_JOBS};
@@ -111,7 +111,7 @@ impl Steps {
 
     // The least last finish over all orders of the steps, of which there is one at least.
     pub fn least_finish(&self) -> u32
-        ensures { IsLeastNumbered (take self.now.count self.now.list) result }
+        ensures { IsLeastFinish (take self.now.count self.now.list) result }
     {
         (0..ORDERS[self.count])
             .map(|number| self.in_order(number).last_finish())

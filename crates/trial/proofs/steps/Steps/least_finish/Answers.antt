@@ -7,7 +7,7 @@ use Rattle.std.proofs.lemmas.Iterator.Adapters.{option_map_id}
 use Rattle.trial.specs.declared.steps.Step.{Step}
 use Rattle.trial.specs.Orders.{arranged, orders_of}
 use Rattle.trial.specs.Finish.{finish_from}
-use Rattle.trial.proofs.Finish.{least_numbered, orders_listed}
+use Rattle.trial.proofs.Finish.{least_finish, orders_listed}
 use Rattle.trial.proofs.steps.Steps.least_finish.Goals as goal
 
 -- the finish of the order with a number
@@ -34,4 +34,4 @@ returns c =
     min_from_yields_List _ c.min.result c.min.ensures.ran
     (YieldsList-from_map _ finish numbers c.map.ensures.closure (λ x r q k. search (rules, numbered))) in
     let some : 0 < orders = subst (λ n. 0 < n) (sym many) (orders_some _) in
-    rw c.unwrap_or.ensures (least_numbered steps orders c.min.result many some (sym (option_map_id _) ∙ least))
+    rw c.unwrap_or.ensures (least_finish steps orders c.min.result many some (sym (option_map_id _) ∙ least))
