@@ -1,6 +1,7 @@
--- The least of a function over numbers in a row, and so the least last finish over all orders.
+-- The least of a function over numbers in a row, and so the least last finish over all orders, as each of them has a number.
 -- Assumes nothing.
-use Rattle.std.specs.Prelude.{◌≡◌, ◌⊎◌, List, [], ◌∷◌, ℕ, zero, suc, ◌+◌, ◌<◌, ◌≤◌, Bool, true, false, ◌&&◌, eqb, get_or, length, map, min, Option, None, Some}
+use Rattle.std.specs.Prelude.{◌≡◌, ◌⊎◌, List, ℕ, zero, suc, ◌+◌, ◌<◌, ◌≤◌, length, map, min}
+use Rattle.std.specs.Prelude.{Bool, true, false, ◌&&◌, eqb, Option, None, Some}
 use Rattle.std.specs.List.{fold, range_with_len, reduce}
 use Rattle.std.specs.Option.{unwrap_or}
 use Rattle.std.proofs.Common.{arith, refl, subst, sym, ap, ◌∙◌, inl, inr, eq-or-lt_of_le, eq-zero-or-pos, eqb-true, eq-eqb, true≢false}
@@ -8,10 +9,11 @@ use Rattle.std.specs.List.Sorted.{IsPermutation}
 use Rattle.std.proofs.lemmas.List.Sorted.{length_permutation, sum_by-IsPermutation}
 use Rattle.std.proofs.lemmas.Bool.{cases_lt}
 use Rattle.trial.specs.declared.steps.Step.{Step}
-use Rattle.trial.specs.Orders.{arranged, arranged_from, orders_of}
-use Rattle.trial.proofs.Orders.{arranged_permutation, reached}
+use Rattle.trial.specs.Orders.{arranged, arranged_from}
+use Rattle.trial.proofs.Orders.{orders_of, arranged_permutation, reached}
 use Rattle.trial.specs.Finish.{finish_from, IsLeastFinish}
 
+-- ---- the least: m is that of s and of what f gives for the n numbers from the start on
 record Least (f : ℕ → ℕ) (s start n m : ℕ) : Type 0 where
   within : m ≤ s
   least : (k : ℕ) → start ≤ k → k < start + n → m ≤ f k
@@ -44,19 +46,7 @@ least_fold : (f : ℕ → ℕ) (s start n : ℕ) → Least f s start n (fold min
 least_fold f s start zero = record { within = omega arith; least = λ k from to. absurd (omega arith); met = inl refl }
 least_fold f s start (suc n) = least_more f s start n _ (least_fold f (min s (f start)) (start + 1) n)
 
--- how many orders so many steps have, as the code's list tells it
-pub orders_listed : (n : ℕ) → n ≤ 6 → get_or (1 ∷ 1 ∷ 2 ∷ 6 ∷ 24 ∷ 120 ∷ 720 ∷ []) n 0 ≡ orders_of n
-unfolding orders_of
-orders_listed zero h = refl
-orders_listed (suc zero) h = refl
-orders_listed (suc (suc zero)) h = refl
-orders_listed (suc (suc (suc zero))) h = refl
-orders_listed (suc (suc (suc (suc zero)))) h = refl
-orders_listed (suc (suc (suc (suc (suc zero))))) h = refl
-orders_listed (suc (suc (suc (suc (suc (suc zero)))))) h = refl
-orders_listed (suc (suc (suc (suc (suc (suc (suc n))))))) h = absurd (omega (arith, h))
-
--- ---- whether two steps are the same
+-- ---- whether two steps are the same, which the numbers of the orders ask for
 
 same_back : Option ℕ → Option ℕ → Bool
 same_back None None = true
@@ -107,7 +97,7 @@ least_from_first :
     Least (λ number. finish_from 0 (arranged steps number)) (finish_from 0 (arranged steps 0)) 1 n m → IsLeastFinish steps m
 least_from_first steps n m many h =
     record {
-      least = λ other p. by_number other p (reached same itself told other steps (sym (length_permutation _ _ p)) (λ f. sum_by-IsPermutation f _ _ p));
+      least = λ other p. by_number other p (numbered other p);
       met = elim (h.met) [
         | inl e ↦ (arranged steps 0, arranged_permutation 0 (length steps) 0 steps (omega arith), e)
         | inr w ↦ (arranged steps w.0, arranged_permutation 0 (length steps) w.0 steps (omega arith), w.3)
@@ -122,6 +112,11 @@ least_from_first steps n m many h =
       | inl e ↦ (let w = h.within in let first : f number ≡ f 0 = ap f e in omega arith)
       | inr later ↦ h.least number later (omega arith)
     ]
+
+    numbered :
+        (other : List Step) → IsPermutation steps other →
+        (number : ℕ) × (number < orders_of (length other)) × (arranged_from 0 (length other) steps number ≡ other)
+    numbered other p = reached same itself told other steps (sym (length_permutation _ _ p)) (λ f. sum_by-IsPermutation f _ _ p)
 
     by_number :
         (other : List Step) → IsPermutation steps other →

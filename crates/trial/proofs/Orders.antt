@@ -1,6 +1,7 @@
--- The numbers below that of the orders give each order of a list, and nothing else.
+-- How many orders a list has; the numbers below that give each of them, and nothing else.
 -- Assumes nothing.
-use Rattle.std.specs.Prelude.{◌≡◌, List, [], ◌∷◌, ℕ, zero, suc, ◌+◌, ◌*◌, ◌/◌, ◌%◌, ◌<◌, ◌≤◌, Bool, true, false, cond, get_or, length, set}
+use Rattle.std.specs.Prelude.{◌≡◌, List, [], ◌∷◌, ℕ, zero, suc, ◌+◌, ◌*◌, ◌/◌, ◌%◌, ◌<◌, ◌≤◌}
+use Rattle.std.specs.Prelude.{Bool, true, false, cond, get_or, length, set}
 use Rattle.std.specs.List.{sum_by, swap}
 use Rattle.std.specs.List.Sorted.{IsPermutation}
 use Rattle.std.proofs.Common.{arith, refl, ap, subst, ◌∙◌, mod-lt, zero-add, suc-mul, mul_comm, mul-le-mul_right}
@@ -9,7 +10,28 @@ use Rattle.std.proofs.lemmas.List.Edits.{length-swap, swap_is}
 use Rattle.std.proofs.lemmas.List.Sums.{sum_by-cons}
 use Rattle.std.proofs.lemmas.List.Sorted.{IsPermutation-refl, IsPermutation-swap, IsPermutation-trans, sum_by-IsPermutation}
 use Rattle.std.proofs.lemmas.Nat.{mod-mul-add, div-mul-add}
-use Rattle.trial.specs.Orders.{arranged_from, orders_of}
+use Rattle.trial.specs.Orders.{arranged_from}
+
+-- how many orders so many items have, and as the code's list tells it
+unfoldable pub orders_of : ℕ → ℕ
+orders_of zero = 1
+orders_of (suc n) = suc n * orders_of n
+
+pub orders_listed : (n : ℕ) → n ≤ 6 → get_or (1 ∷ 1 ∷ 2 ∷ 6 ∷ 24 ∷ 120 ∷ 720 ∷ []) n 0 ≡ orders_of n
+unfolding orders_of
+orders_listed zero h = refl
+orders_listed (suc zero) h = refl
+orders_listed (suc (suc zero)) h = refl
+orders_listed (suc (suc (suc zero))) h = refl
+orders_listed (suc (suc (suc (suc zero)))) h = refl
+orders_listed (suc (suc (suc (suc (suc zero))))) h = refl
+orders_listed (suc (suc (suc (suc (suc (suc zero)))))) h = refl
+orders_listed (suc (suc (suc (suc (suc (suc (suc n))))))) h = absurd (omega (arith, h))
+
+pub orders_some : (n : ℕ) → 0 < orders_of n
+unfolding orders_of
+orders_some zero = omega arith
+orders_some (suc n) = let h = orders_some n in omega arith
 
 -- ---- each number gives an order
 
@@ -46,7 +68,7 @@ swap_front [] y k h e = absurd (omega (arith, h))
 swap_front (x ∷ xs) y zero h e = (xs, ap (λ z. z ∷ xs) e)
 swap_front (x ∷ xs) y (suc k) h e = (set xs k x, ap (λ z. z ∷ set xs k x) (get_or_default xs k x y (omega arith) ∙ e))
 
--- ---- each order has a number
+-- ---- each order has a number: that of its first item's place, and below it that of the order of the others
 
 nothing : {X : Type 0} (xs : List X) → length xs ≡ 0 → xs ≡ []
 nothing [] h = refl
@@ -68,6 +90,8 @@ arranged_next n r m xs rest ys y below front room others =
     let quotient : (m * suc n + r) / suc n ≡ m = div-mul-add m (suc n) r below in
     rw (remainder, quotient, front) (arranged_cons 0 n m y rest (omega arith) ∙ ap (λ zs. y ∷ zs) others)
 
+-- Two lists that are orders of one another have the same sums. Of sums, what stands in both can be taken away, so this holds of what is left
+-- too; and a sum of ones where an item is the one looked for tells that it stands in the list. Equality is to be decided for this.
 module _ {X : Type 0} (same : X → X → Bool) (itself : (x : X) → same x x ≡ true) (told : (x y : X) → same x y ≡ true → x ≡ y) where
   -- 1 for an item, 0 for the others
   abbrev one : X → X → ℕ
@@ -88,6 +112,14 @@ module _ {X : Type 0} (same : X → X → Bool) (itself : (x : X) → same x x �
   stands : (y : X) (ys : List X) → 0 < sum_by (one y) (y ∷ ys)
   stands y ys = let once : one y y ≡ 1 = rw (itself y) in omega (arith, sum_by-cons (one y) y ys)
 
+  -- what is left without the item has the same sums
+  left :
+      (f : X → ℕ) (y : X) (xs swapped rest ys : List X) → IsPermutation xs swapped → swapped ≡ y ∷ rest → sum_by f (y ∷ ys) ≡ sum_by f xs →
+      sum_by f ys ≡ sum_by f rest
+  left f y xs swapped rest ys moved front all =
+      let kept = sum_by-IsPermutation f _ _ moved in
+      let seen : sum_by f swapped ≡ sum_by f (y ∷ rest) = ap (sum_by f) front in omega (arith, sum_by-cons f y ys, sum_by-cons f y rest)
+
   pub reached :
       (ys xs : List X) → length xs ≡ length ys → ((f : X → ℕ) → sum_by f ys ≡ sum_by f xs) →
       (number : ℕ) × (number < orders_of (length ys)) × (arranged_from 0 (length ys) xs number ≡ ys)
@@ -99,13 +131,7 @@ module _ {X : Type 0} (same : X → X → Bool) (itself : (x : X) → same x x �
       let moved = IsPermutation-swap xs _ 0 w.0 (omega arith) w.1 refl in
       let among : length (swap xs 0 w.0) ≡ suc (length front.0) = ap length front.1 in
       let rest_long : length front.0 ≡ length ys = omega (arith, length-swap xs 0 w.0) in
-      let rest_sums : (f : X → ℕ) → sum_by f ys ≡ sum_by f front.0 =
-      (λ f.
-      let all = sums f in
-      let kept = sum_by-IsPermutation f _ _ moved in
-      let seen : sum_by f (swap xs 0 w.0) ≡ sum_by f (y ∷ front.0) = ap (sum_by f) front.1 in
-      omega (arith, sum_by-cons f y ys, sum_by-cons f y front.0)) in
-      let others = reached ys front.0 rest_long rest_sums in
+      let others = reached ys front.0 rest_long (λ f. left f y xs (swap xs 0 w.0) front.0 ys moved front.1 (sums f)) in
       let below : w.0 < suc (length ys) = omega arith in
       let number = others.0 * suc (length ys) + w.0 in
       let is = arranged_next (length ys) w.0 others.0 xs front.0 ys y below front.1 (omega arith) others.2 in

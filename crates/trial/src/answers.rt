@@ -6,7 +6,7 @@ use crate::search::Best;
 use planner::Written;
 use records::refusal::Said;
 
-// What NONE says, by the number that the rules give it: written here, so that a planner that says another number is told.
+// What NONE says, by the number that the rules give it: written here, so that a planner that says another number shows.
 pub const NONE: Said = Said {
     number: 7,
     place: None,

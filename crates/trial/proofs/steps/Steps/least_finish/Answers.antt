@@ -1,24 +1,20 @@
--- `trial::steps::Steps::least_finish` meets its contract: the least is that over the numbers of all orders. Assumes nothing.
-use Rattle.std.specs.Prelude.{◌≡◌, List, [], ◌∷◌, ℕ, zero, suc, ◌<◌, get_or, length, take}
+-- `trial::steps::Steps::least_finish` meets its contract: the chain goes over the numbers of all orders. Assumes nothing.
+use Rattle.std.specs.Prelude.{◌≡◌, List, [], ◌∷◌, ℕ, ◌<◌, get_or, length, take}
 use Rattle.std.proofs.Common.{arith, rules, ap, length-take-le, subst, sym, ◌∙◌}
 use Rattle.std.proofs.lemmas.Iterator.{YieldsList-from_map, YieldsList-from_range}
 use Rattle.std.proofs.lemmas.Iterator.Consumers.{min_from_yields_List}
 use Rattle.std.proofs.lemmas.Iterator.Adapters.{option_map_id}
 use Rattle.trial.specs.declared.steps.Step.{Step}
-use Rattle.trial.specs.Orders.{arranged, orders_of}
+use Rattle.trial.specs.Orders.{arranged}
 use Rattle.trial.specs.Finish.{finish_from}
-use Rattle.trial.proofs.Finish.{least_finish, orders_listed}
+use Rattle.trial.proofs.Orders.{orders_of, orders_listed, orders_some}
+use Rattle.trial.proofs.Finish.{least_finish}
 use Rattle.trial.proofs.steps.Steps.least_finish.Goals as goal
 
 -- the finish of the order with a number
 numbered :
     (n count : ℕ) (list xs : List Step) → n ≡ count → take count list ≡ xs → finish_from 0 (take n list) ≡ finish_from 0 xs
 numbered n count list xs e h = rw e (ap (finish_from 0) h)
-
-orders_some : (n : ℕ) → 0 < orders_of n
-unfolding orders_of
-orders_some zero = omega arith
-orders_some (suc n) = let h = orders_some n in omega arith
 
 pub returns : goal.returns
 returns c =
