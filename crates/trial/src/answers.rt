@@ -4,19 +4,25 @@
 use crate::bytes;
 use crate::search::Best;
 use planner::Written;
-use records::refusal::Refusal;
+use records::refusal::Said;
 
-// A plan; or a refusal, with the area as it was lent.
+// What NONE says, by the number that the rules give it: written here, so that a planner that says another number shows.
+pub const NONE: Said = Said {
+    number: 7,
+    place: None,
+};
+
+// A plan; or what a refusal says, with the area as it was lent.
 #[derive(Clone, Copy, PartialEq, Eq)]
 pub struct Answer {
-    pub plan: Result<Written, Refusal>,
+    pub plan: Result<Written, Said>,
     pub area: [u8; bytes::AREA],
 }
 
 impl Answer {
     // A table that no timetable meets.
     pub const NONE: Answer = Answer {
-        plan: Err(Refusal::None),
+        plan: Err(NONE),
         area: bytes::UNTOUCHED,
     };
 

@@ -32,7 +32,7 @@ fn try_planners(free: &Search<FreeOrder>, table: &[u8], deadline: u16, report: &
     report.given.add(&given_answer, given_best);
     let only_free = best.is_some() && given_best.is_none();
     count(&mut report.only_free, only_free);
-    let least = planner::least_deadline(table);
+    let least = asked::least_deadline(table);
     report.least.add(least, free.least_deadline(), deadline);
 }
 

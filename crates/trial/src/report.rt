@@ -1,8 +1,8 @@
 // What is found of the tables: how often, over all of them, and the report.
 
-use crate::answers::Answer;
+use crate::answers::{Answer, NONE};
 use crate::search::Best;
-use records::refusal::Refusal;
+use records::refusal::Said;
 use std::fmt;
 
 // How often a planner of one order answered what.
@@ -56,7 +56,7 @@ impl OrderCounts {
     // Counts an answer, beside the one that goes with the best choice.
     pub fn add(&mut self, answer: &Answer, best: Option<Best>) {
         count(&mut self.plans, answer.plan.is_ok());
-        count(&mut self.none, answer.plan == Err(Refusal::None));
+        count(&mut self.none, answer.plan == Err(NONE));
         count(&mut self.ties, best.is_some_and(|best| best.tied));
         count(
             &mut self.away,
@@ -76,14 +76,9 @@ impl OrderCounts {
 
 impl LeastCounts {
     // Counts an answer, beside the least deadline that some choice meets and the table's own.
-    pub fn add(
-        &mut self,
-        answer: Result<u16, Refusal>,
-        least: Result<u16, Refusal>,
-        deadline: u16,
-    ) {
+    pub fn add(&mut self, answer: Result<u16, Said>, least: Result<u16, Said>, deadline: u16) {
         count(&mut self.found, answer.is_ok());
-        count(&mut self.none, answer == Err(Refusal::None));
+        count(&mut self.none, answer == Err(NONE));
         count(&mut self.differences, answer != least);
         count(
             &mut self.one_below,

@@ -1,12 +1,13 @@
 // The search: all choices that a rule tries, each with its plan and when it is done; the best of them, and the least deadline.
-// Nothing is sorted but a plan's own order, and no result is built from that of another choice.
+// Nothing is sorted but a plan's own order, from which the search for the least last finish does not start, and no result is built from that
+// of another choice.
 
-use crate::answers::Answer;
+use crate::answers::{Answer, NONE};
 use crate::choices::Choice;
 use crate::jobs::Jobs;
 use crate::rules::Rule;
 use crate::steps::Steps;
-use records::refusal::Refusal;
+use records::refusal::Said;
 use std::cmp::Ordering;
 use table::Table;
 
@@ -35,12 +36,13 @@ pub struct Search<'a, R> {
 }
 
 fn try_choice(jobs: &Jobs, choice: Choice, rule: &impl Rule) -> Option<Tried> {
-    let listed = Steps::of(jobs, choice, rule)?.listed(rule);
+    let steps = Steps::of(jobs, choice, rule)?;
+    let listed = steps.listed(rule);
     Some(Tried {
         choice,
         listed,
         busy: listed.busy(),
-        finish: rule.finish(&listed),
+        finish: rule.finish(&steps),
     })
 }
 
@@ -68,12 +70,12 @@ impl<'a, R: Rule + Copy> Search<'a, R> {
     }
 
     // The least deadline that some choice meets: at least 1, and none above the largest time.
-    pub fn least_deadline(&self) -> Result<u16, Refusal> {
+    pub fn least_deadline(&self) -> Result<u16, Said> {
         self.least_finish()
             .and_then(|least| u16::try_from(least).ok())
             .filter(|least| *least <= Table::LARGEST_TIME)
             .map(|least| least.max(1))
-            .ok_or(Refusal::None)
+            .ok_or(NONE)
     }
 
     // The better of the best so far and one more choice.

@@ -1,6 +1,8 @@
 // The steps of a choice: each job of a table, kept here or sent away, in table order or in another one. What an order of them comes to,
 // and the search: the least last finish over all orders of the steps, laid back to back from tick 0.
 ghost use Rattle.std.specs.Prelude.{◌≡◌, sum_by, take, IfSome, IsPermutation};
+ghost use Rattle.trial.specs.Finish.{finish_from, IsLeastFinish};
+ghost use Rattle.trial.specs.Orders.{arranged};
 
 use crate::choices::Choice;
 use crate::jobs::{Job, Jobs, MOST_JOBS};
@@ -37,15 +39,17 @@ fn step_of(job: &Job, place: usize, away: bool, rule: &impl Rule) -> Option<Step
     })
 }
 
-// Puts the items into the order with a number: each in turn changes places with one before it, or stays. Different numbers below that of the
-// orders give different orders, since the last item's place tells the last remainder, and so on down.
+// Puts the items into the order with a number: each place in turn gets one of the items that are left. The numbers below that of the orders
+// give every order, since the remainder can be the place of any item that is left, and the quotient any number for the rest of them.
 fn arrange<T>(items: &mut [T], number: usize)
-    ensures { IsPermutation items.old items.new }
+    ensures permutation { IsPermutation items.old items.new }
+    ensures order { items.new ≡ arranged items.old number }
 {
     let mut rest = number;
     for k in 0..items.len() {
-        items.swap(k, rest % (k + 1));
-        rest /= k + 1;
+        let left = items.len() - k;
+        items.swap(k, k + rest % left);
+        rest /= left;
     }
 }
 
@@ -81,7 +85,9 @@ impl Steps {
     }
 
     // When the last of the steps is done, in the order in which they stand.
-    pub fn last_finish(&self) -> u32 {
+    pub fn last_finish(&self) -> u32
+        ensures { result ≡ finish_from 0 (take self.now.count self.now.list) }
+    {
         let mut end = 0;
         let mut last = 0;
         for step in self.as_slice() {
@@ -95,6 +101,7 @@ impl Steps {
     fn in_order(&self, number: usize) -> Steps
         ensures count { result.count ≡ self.now.count }
         ensures steps { IsPermutation (take self.now.count self.now.list) (take self.now.count result.list) }
+        ensures order { take self.now.count result.list ≡ arranged (take self.now.count self.now.list) number }
     {
         let count = self.count;
         let mut list = self.list;
@@ -102,10 +109,13 @@ impl Steps {
         Steps::first(list, count)
     }
 
-    // The least last finish over all orders of the steps.
-    pub fn least_finish(&self) -> u32 {
-        (1..ORDERS[self.count])
+    // The least last finish over all orders of the steps, of which there is one at least.
+    pub fn least_finish(&self) -> u32
+        ensures { IsLeastFinish (take self.now.count self.now.list) result }
+    {
+        (0..ORDERS[self.count])
             .map(|number| self.in_order(number).last_finish())
-            .fold(self.last_finish(), |least, finish| least.min(finish))
+            .min()
+            .unwrap_or(u32::MAX)
     }
 }
