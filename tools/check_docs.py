@@ -52,6 +52,12 @@ def path_of(function):
     return function.key.replace('.', '::')
 
 
+def has_line(f, statements):
+    """One of the statements is over the contract of this function."""
+    crate, rest = f.key.split('.', 1)
+    return re.search(rf'(?<![\w.-]){crate}_contracts\.{re.escape(rest)}\.ended\b', statements)
+
+
 def check_functions(tree):
     """Each public function of a library, by crate, type and name."""
     public = [f for f in tree.functions if f.public and not f.program and f.crate != EXPORTS[0]]
@@ -65,8 +71,7 @@ def check_functions(tree):
     for f in public:
         if path_of(f) in OPEN:
             continue
-        crate, rest = f.key.split('.', 1)
-        if not re.search(rf'(?<![\w.-]){crate}_contracts\.{re.escape(rest)}\.ended\b', settled):
+        if not has_line(f, settled):
             troubles.append(f'Functions.antt of crate settled has no line over the contract of {path_of(f)}')
     asking = set(re.findall(r'`([\w:]+)`', ''.join(rows(section(FUNCTIONS, 'Functions that ask something of their caller'), 0))))
     compare(f'{FUNCTIONS}, asking', {path_of(f) for f in public if ' requires ' in f.contract}, asking)
@@ -91,12 +96,15 @@ def check_exports(tree):
 
 
 def check_signatures(tree):
-    """The entry points with the types of their parameters, and the events of the runner, as FUNCTIONS.md prints them."""
+    """The entry points with the types of their parameters, and the events of the runner, as FUNCTIONS.md prints them; each may be called with all inputs."""
     printed = section(FUNCTIONS, 'Entry points, with the types of what they take').split('```')[1].split('\n')[1:-1]
     entries = [f for f in tree.functions if f.public and not f.program and f.crate in ENTRIES and ' requires ' not in f.contract]
     found = [path_of(f).rsplit('::', 1)[0] + ': ' + re.split(' (?:requires|ensures) ', f.contract)[0].strip() for f in entries]
     events = re.search(r'pub enum Event \{.*?\n\}', tree.texts['crates/frame_record/src/lib.rt'], re.S)[0]
     compare(f'{FUNCTIONS}, entry points', set(found + [' '.join(events.split())]), set(printed))
+    called = text('crates/settled/proofs/Callable.antt')
+    troubles.extend(f'Callable.antt of crate settled has no line over the contract of {path_of(f)}'
+                    for f in entries if f.crate != EXPORTS[0] and not has_line(f, called))
 
 
 def rows(part, column):

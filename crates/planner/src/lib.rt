@@ -4,6 +4,9 @@
 
 pub mod orders; // orders.rt: the two orders in which plans are made
 
+ghost use Rattle.records.specs.Limits.{largest_time};
+ghost use Rattle.table.specs.Tables.{Sound, job_table};
+ghost use Rattle.choice.specs.Choices.{IsEarliest};
 ghost use Rattle.planner.specs.Answers.{was_read, SoundRead, PlanAnswer, LeastRead};
 ghost use Rattle.planner.specs.Answers.{FreeAnswer, GivenAnswer, LeastAnswer};
 
@@ -56,13 +59,22 @@ pub fn plan_given(table: &[u8], area: &mut [u8]) -> Result<Written, Refusal>
     plan_read::<GivenOrder>(table::read_table(table), area)
 }
 
+// The least deadline that some timetable of a table's jobs meets, if one does. A function of its own, so that what is prepared is made where it is
+// asked: beside the `?` below, the compiler copies it, which takes 592 bytes of stack.
+fn earliest_of(t: &Table) -> Option<u16>
+    requires { Sound t.now }
+    ensures { IsEarliest largest_time (job_table t.now).jobs result }
+{
+    choice::earliest(&choice::prepare(t))
+}
+
 // The least deadline that some timetable of what was read meets, whatever the table's own.
 pub fn least_deadline_read(read: Result<Table, Refusal>) -> Result<u16, Refusal>
     requires { SoundRead read }
     ensures { LeastRead (was_read read) result }
 {
     let table = read?;
-    choice::earliest(&choice::prepare(&table)).ok_or(Refusal::None)
+    earliest_of(&table).ok_or(Refusal::None)
 }
 
 // The least deadline of a table's bytes.

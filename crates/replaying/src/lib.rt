@@ -3,7 +3,7 @@
 // `replay_to` says what any writer is handed; no contract can speak of standard output, which `replay` hands it.
 #![tactic(auto)]
 
-ghost use Rattle.std.specs.Prelude.{◌≡◌, ◌+◌, ◌≤◌, length, OnOk, IsOk};
+ghost use Rattle.std.specs.Prelude.{◌≡◌, ◌+◌, ◌≤◌, length, OnOk, OnErr, IsOk};
 ghost use Rattle.std.specs.Io.KnownBytes.{Appends};
 ghost use Rattle.std.specs.Float.Ieee.{to_bits};
 ghost use Rattle.std.specs.Float.{binary32};
@@ -155,7 +155,8 @@ pub struct Replayed {
 
 // Hands a line out in one piece, unless a line before could not be written: a text with a hole would read as a whole one.
 fn hand_out<W: Write>(to: &mut W, written: io::Result<()>, line: &[u8]) -> io::Result<()>
-    ensures { OnOk result (IsOk written × Appends (W.contents to.old) (W.contents to.new) line.now) }
+    ensures text { OnOk result (IsOk written × Appends (W.contents to.old) (W.contents to.new) line.now) }
+    ensures hole { OnErr written (to.new ≡ to.old) }
 {
     written?;
     to.write_all(line)

@@ -1,5 +1,5 @@
--- "No public entry point has a `requires`", as a statement: every function over bytes, every call of the runner and every C function may be called with
--- all inputs. A `requires` that asked something would fail here. Assumes nothing.
+-- "No public entry point has a `requires`", as a statement: every entry point that docs/FUNCTIONS.md lists may be called with all inputs (the C functions
+-- as those of crate panel, whose clauses they have). A `requires` that asked something would fail here. Assumes nothing.
 use Rattle.records.proofs as records
 use Rattle.records.specs.contracts as records_contracts
 use Rattle.table.proofs as table
@@ -18,6 +18,8 @@ use Rattle.frame_reports.proofs as frame_reports
 use Rattle.frame_reports.specs.contracts as frame_reports_contracts
 use Rattle.frame_calls.proofs as frame_calls
 use Rattle.frame_calls.specs.contracts as frame_calls_contracts
+use Rattle.frame_lent.proofs as frame_lent
+use Rattle.frame_lent.specs.contracts as frame_lent_contracts
 use Rattle.frame_log.proofs as frame_log
 use Rattle.frame_log.specs.contracts as frame_log_contracts
 use Rattle.listing.proofs as listing
@@ -28,6 +30,7 @@ use Rattle.panel.proofs as panel
 use Rattle.panel.specs.contracts as panel_contracts
 use Rattle.input.proofs as input
 use Rattle.input.specs.contracts as input_contracts
+use Rattle.records.specs.declared.kind.Allowed
 use Rattle.std.specs.declared.io.Read
 use Rattle.std.specs.declared.io.Write
 use Rattle.settled.specs.Settled.{AsksNothing, AsksOnly}
@@ -44,8 +47,32 @@ read_table κs i = tt
 pub table_empty : AsksNothing table_contracts.Table.empty.ended table.Table.empty.Reads.Pre
 table_empty κs i = tt
 
+pub most_jobs_lem : AsksNothing table_contracts.Table.most_jobs.ended table.Table.most_jobs.Reads.Pre
+most_jobs_lem κs i = tt
+
+pub largest_time_lem : AsksNothing table_contracts.Table.largest_time.ended table.Table.largest_time.Reads.Pre
+largest_time_lem κs i = tt
+
+pub longest_table : AsksNothing table_contracts.Table.longest_table.ended table.Table.longest_table.Reads.Pre
+longest_table κs i = tt
+
+pub longest_plan : AsksNothing table_contracts.Table.longest_plan.ended table.Table.longest_plan.Reads.Pre
+longest_plan κs i = tt
+
+pub form_of_lem : AsksNothing records_contracts.kind.form_of.ended records.kind.form_of.Reads.Pre
+form_of_lem κs i = tt
+
+pub place_start : AsksNothing records_contracts.refusal.Place.start.ended records.refusal.Place.start.Reads.Pre
+place_start κs i = tt
+
 pub numbers_of : AsksNothing records_contracts.refusal.numbers_of.ended records.refusal.numbers_of.Reads.Pre
 numbers_of κs i = tt
+
+module _ (T : RattleType) (L : Laws T) (P : Allowed.Ghosts T.Denot) (d e : Dict) where
+  -- whatever kinds may stand there, as long as the kind lives, which its type says
+  pub opened :
+      AsksOnly (records_contracts.record.opened.ended T P d e) (λ κs i. (a : ℕ) → Mem a T.lives → Mem a κs.1.0) (records.record.opened.Reads.Pre T L P d e)
+  opened κs i lives = lives
 
 pub ended_at : AsksNothing records_contracts.record.ended_at.ended records.record.ended_at.Reads.Pre
 ended_at κs i = tt
@@ -112,6 +139,12 @@ close κs i = tt
 
 pub read : AsksNothing frame_calls_contracts.read.ended frame_calls.read.Reads.Pre
 read κs i = tt
+
+pub begin_in : AsksNothing frame_lent_contracts.begin_in.ended frame_lent.begin_in.Reads.Pre
+begin_in κs i = tt
+
+pub call_in : AsksNothing frame_lent_contracts.call_in.ended frame_lent.call_in.Reads.Pre
+call_in κs i = tt
 
 pub record_at : AsksNothing frame_log_contracts.record_at.ended frame_log.record_at.Reads.Pre
 record_at κs i = tt

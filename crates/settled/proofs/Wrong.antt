@@ -4,14 +4,16 @@ use Rattle.std.specs.Prelude.{Option, None, Some, Ok, Err}
 use mathlib.Core.Path.{◌≡◌, refl, ap}
 use mathlib.Core.Bool.{Bool, true, false}
 use mathlib.Core.List.{List, [], ◌∷◌}
-use Prim.Native.Nat.{ℕ}
+use Prim.Native.Nat.{ℕ, suc}
 use native.Mathlib.Omega.{arith}
 use lib.Ieee.{nan, fin}
 use lib.IntN.{pos}
 use lib.ListN.{get_or, set, replicate}
 use Rattle.model.specs.declared.Sending.TheVariants.{Either}
 use Rattle.model.specs.declared.Job.{Job}
+use Rattle.model.specs.Timetable.{Chosen}
 use Rattle.model.specs.Laying.{chosen}
+use Rattle.model.specs.Positions.{no_job}
 use Rattle.model.proofs.Lists.{clash}
 use Rattle.model.proofs as model
 use Rattle.model.specs.contracts as model_contracts
@@ -50,6 +52,10 @@ use Rattle.draft.specs.declared.Draft.{Draft}
 use Rattle.draft.specs.Drafts.{draft_of, with_chosen}
 use Rattle.draft.proofs as draft
 use Rattle.draft.specs.contracts as draft_contracts
+use Rattle.given.proofs as given
+use Rattle.given.specs.contracts as given_contracts
+use Rattle.free.proofs as free
+use Rattle.free.specs.contracts as free_contracts
 use Rattle.faults.specs.Allows.{to, to_mut}
 use Rattle.frame_record.specs.declared.Frame.{Frame}
 use Rattle.frame_record.specs.declared.Phase.TheVariants.{Open}
@@ -293,6 +299,43 @@ pub flags_of : FlagsNot (replicate most_jobs false) × FlagsNot (set (replicate 
 flags_of = (
   (λ m e. clash (cc (ap (λ (bs : List Bool). get_or bs 0 false) (e (job ∷ job ∷ []) refl)))),
   (λ m e. clash (cc (ap (λ (bs : List Bool). get_or bs 0 false) (e (job ∷ job ∷ []) refl)))),
+)
+
+-- ---- given, free
+
+-- a table of one job, which both planners send away
+abbrev quick : Job
+quick = record { id = 1; local = 3; sending = Either 1 1 }
+
+abbrev one_job : Table
+one_job = record { deadline = 3; count = 1; jobs = set (replicate most_jobs no_job) 0 quick }
+
+-- the job listed where it should not be: once more, as kept here
+abbrev listed_twice : List Chosen
+listed_twice = chosen quick true ∷ chosen quick false ∷ []
+
+-- how many steps a planner found, and one more; 0 where it found no plan
+abbrev found : Option Draft → ℕ
+found None = 0
+found (Some d) = suc d.plan.count
+
+-- a job left out, or listed where it should not be
+abbrev GivenNot : Option Draft → Type 0
+GivenNot o = RulesOut given_contracts.given_plan.ended given.given_plan.Reads.Learnt ([], tt) (to one_job, tt) o
+
+pub given_plan : GivenNot (Some (draft_of [])) × GivenNot (Some (draft_of listed_twice))
+given_plan = (
+  (λ m e. let z : ◌≡◌ {A = ℕ} 1 2 = ap found e in omega arith),
+  (λ m e. let z : ◌≡◌ {A = ℕ} 3 2 = ap found e in omega arith),
+)
+
+abbrev FreeNot : Option Draft → Type 0
+FreeNot o = RulesOut free_contracts.free_plan.ended free.free_plan.Reads.Learnt ([], tt) (to one_job, tt) o
+
+pub free_plan : FreeNot (Some (draft_of [])) × FreeNot (Some (draft_of listed_twice))
+free_plan = (
+  (λ m e. let z : ◌≡◌ {A = ℕ} 1 2 = ap found e in omega arith),
+  (λ m e. let z : ◌≡◌ {A = ℕ} 3 2 = ap found e in omega arith),
 )
 
 -- ---- the frame's record

@@ -13,5 +13,5 @@ returns-in_err-table c =
 
 pub returns : goal.returns
 returns c =
-    let said : c.ok_or.result ≡ ok_or c.earliest.result R.None = search rules in
-    rw said (least_answered c.args.read _ c.in_ok-table.was _ c.prepare.ensures _ c.earliest.ensures)
+    let said : c.ok_or.result ≡ ok_or c.earliest_of.result R.None = search rules in
+    rw said (least_answered c.args.read _ c.in_ok-table.was _ c.earliest_of.ensures)

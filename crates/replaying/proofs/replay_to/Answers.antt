@@ -27,7 +27,7 @@ loop-rest-smaller g c =
 pub loop-rest-preserved : goal.loop-rest-preserved
 loop-rest-preserved g c =
     let left : ¬ (length c.loop-rest.rest.now ≡ 0) = eqb-false _ _ (sym c.is_empty.ensures ∙ c.loop-rest-test.true) in
-    turn _ _ c.loop-rest.invariant c.next_line-turn.ensures left _ _ c.hand_out-written.ensures
+    turn _ _ c.loop-rest.invariant c.next_line-turn.ensures left _ _ c.hand_out-written.ensures.text
 
 pub returns-clause-frame : goal.returns-clause-frame
 returns-clause-frame g c = ends_frame _ _ c.loop-rest.invariant (eqb-true _ _ (sym c.is_empty.ensures ∙ c.loop-rest-test.false))
