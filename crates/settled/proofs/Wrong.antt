@@ -1,4 +1,4 @@
--- Answers that contracts rule out, for the public functions whose wrong answers no must-fail edit and no statement of crate `marked` shows.
+-- Answers that contracts rule out, for the public functions whose wrong answers no must-fail edit and no statement of crate `marked` shows, or not all.
 -- Each says: for this input the function's own contract, as in Functions.antt, does not allow this answer. Assumes nothing.
 use Rattle.std.specs.Prelude.{Option, None, Some, Ok, Err}
 use mathlib.Core.Path.{◌≡◌, refl, ap}
